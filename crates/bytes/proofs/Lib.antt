@@ -1,0 +1,7 @@
+pub mod Took
+pub mod Values
+pub mod ReaderLaws
+pub mod ReaderTook
+pub mod AddressLaws
+pub mod LebLaws
+pub mod LebTook

@@ -1,0 +1,57 @@
+-- The value of bytes: side by side, the other way round, and its bound.
+use mathlib.Core.Path.{_≡_, refl, sym, ap, _∙_}
+use mathlib.Core.List.{List, [], _∷_, _++_, reverse, reverse-append, reverse-cons}
+use Prim.Native.Nat.{ℕ, zero, suc, _+_, _-_, _*_, _/_, _%_, _^_, _≤_, _<_}
+use native.Mathlib.Nat.{mul-comm, mul-assoc, pow-suc}
+use native.Mathlib.Omega.{arith}
+use lib.Arith.{digits-lt, digits-div, digits-mod}
+use lib.ListN.{length, getD, take, drop, length-append}
+use lib.Pow.{pow-add}
+use lib.Seq.{drop-cons, take-add, drop-drop}
+use Rattle.bytes.specs.Endianity.{little, value}
+use Rattle.bytes.specs.Swap.{swap, Loaded}
+
+-- numbers side by side, the first lower
+pub little-append : (xs ys : List ℕ) → little (xs ++ ys) ≡ little ys * 256 ^ length xs + little xs
+unfolding little
+little-append [] ys = omega arith
+little-append (x ∷ xs) ys =
+    rw (little-append xs ys, pow-suc) (omega (arith, mul-assoc (little ys) (256 ^ length xs) 256))
+
+pub length-reverse : (l : List ℕ) → length (reverse l) ≡ length l
+length-reverse [] = refl
+length-reverse (x ∷ l) = ap length (reverse-cons x l) ∙ simp (length-append, length-reverse l) (omega arith)
+
+big-append : (xs ys : List ℕ) → little (reverse (xs ++ ys)) ≡ little (reverse xs) * 256 ^ length ys + little (reverse ys)
+big-append xs ys = rw (reverse-append xs ys, little-append (reverse ys) (reverse xs), length-reverse ys)
+
+pub loaded-one : (b : ℕ) → b < 256 → Loaded 0 (b ∷ []) b
+unfolding little swap
+loaded-one b h = record { size = refl; low = omega arith; top = omega arith; other = omega arith }
+
+-- two halves side by side
+pub loaded-join : {k : ℕ} {xs ys : List ℕ} {lo hi : ℕ} → Loaded k xs lo → Loaded k ys hi → Loaded (suc k) (xs ++ ys) (lo + hi * 256 ^ (2 ^ k))
+unfolding swap
+loaded-join {k} {xs} {ys} {lo} {hi} l h =
+    let c : lo + hi * 256 ^ (2 ^ k) ≡ hi * 256 ^ (2 ^ k) + lo = omega arith in
+    let d : 2 ^ suc k ≡ 2 ^ k + 2 ^ k = rw pow-suc (omega arith) in
+    record {
+      size = rw (length-append xs ys, d) (omega arith);
+      low = rw (little-append xs ys, l .size, ← h .low, ← l .low) c;
+      top = rw (c, d, pow-add 256 (2 ^ k) (2 ^ k)) (digits-lt (h .top) (l .top));
+      other = rw (c, digits-mod hi (l .top), digits-div hi (l .top), big-append xs ys, h .size, l .other, h .other);
+    }
+
+-- the bytes at a place
+module _ (s : List ℕ) (at : ℕ) where
+  pub loaded-byte : at < length s → getD s at 0 < 256 → Loaded 0 (take 1 (drop at s)) (getD s at 0)
+  loaded-byte h l = rw (drop-cons s at 0 h) (loaded-one (getD s at 0) l)
+
+  pub loaded-pair : (n k : ℕ) {lo hi : ℕ} → Loaded k (take n (drop at s)) lo → Loaded k (take n (drop (at + n) s)) hi
+      → Loaded (suc k) (take (n + n) (drop at s)) (lo + hi * 256 ^ (2 ^ k))
+  loaded-pair n k l h = rw (take-add n n (drop at s), drop-drop n at s) (loaded-join l h)
+
+-- the other way round, from the halves the other way round
+pub swap-join : (k x : ℕ) {a b : ℕ} → a ≡ swap k (x % 256 ^ (2 ^ k)) → b ≡ swap k (x / 256 ^ (2 ^ k)) → a * 256 ^ (2 ^ k) + b ≡ swap (suc k) x
+unfolding swap
+swap-join k x p q = rw (p, q)

@@ -1,0 +1,23 @@
+-- Unsigned LEB128 (DWARF 5, 7.6). The standard sets no limit; gimli's is taken over: ten bytes, the tenth 00 or 01.
+use Prim.Native.Nat.{ℕ, _+_, _*_, _%_}
+use mathlib.Core.Bool.{_&&_}
+use mathlib.Core.List.{List, [], _∷_}
+use lib.Dec.{ltb, eqb}
+use lib.ListN.{drop}
+use Rattle.bytes.specs.Read.{Read, got, andThen, pick}
+use Rattle.bytes.specs.Error.{refusal}
+use Rattle.bytes.specs.declared.error.Error.the-variants.{UnexpectedEof, BadUnsignedLeb128}
+
+-- the low seven bits of a byte, below a number that was read after it
+abbrev pub below : ℕ → Read ℕ → Read ℕ
+below b r = andThen r (λ v c. got (b % 128 + 128 * v) c)
+
+-- the bytes from a place on, of which the first is the number's k-th, counted from 0
+unfoldable pub unsignedFrom : ℕ → List ℕ → ℕ → Read ℕ
+unsignedFrom k [] at = refusal UnexpectedEof
+unsignedFrom k (b ∷ bs) at =
+    pick (eqb k 9 && ltb 1 b) (refusal BadUnsignedLeb128)
+    (pick (ltb b 128) (got b (at + 1)) (below b (unsignedFrom (k + 1) bs (at + 1))))
+
+unfoldable pub unsigned : List ℕ → ℕ → Read ℕ
+unsigned s at = unsignedFrom 0 (drop at s) at

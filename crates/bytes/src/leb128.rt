@@ -1,0 +1,48 @@
+// Unsigned LEB128 numbers.
+use super::Num;
+use super::error::Error;
+ghost use mathlib.Core.Path.{_≡_};
+ghost use Prim.Native.Nat.{_+_, _≤_, _<_};
+ghost use lib.ListN.{length, getD};
+ghost use Rattle.bytes.specs.Error.{told};
+ghost use Rattle.bytes.specs.Leb128.{unsigned as unsignedAt};
+
+// The number from its second byte on, given the first, which another follows.
+fn unsigned_more(s: &[u8], at: usize) -> Num
+    requires { ⌜ (at < length (now s)) × (128 ≤ getD (now s) at 0) ⌝ }
+    ensures { λ r. ⌜ told r ≡ unsignedAt (now (s .entry)) at ⌝ }
+{
+    let mut result: u64 = (s[at] & 0x7f) as u64;
+    let mut shift: u32 = 7;
+    let mut i = at + 1;
+    while i < s.len() {
+        let byte = s[i];
+        i += 1;
+        if shift == 63 {
+            if 1 < byte {
+                return Num::Refused(Error::BadUnsignedLeb128);
+            }
+        }
+        result |= ((byte & 0x7f) as u64) << shift;
+        if byte < 128 {
+            return Num::Got(result, i);
+        }
+        shift += 7;
+    }
+    Num::Refused(Error::UnexpectedEof)
+}
+
+// The low seven bits of each byte, the first byte lowest, at most ten bytes: 1 where one is missing, 2 where the tenth
+// is above 01.
+pub fn unsigned(s: &[u8], at: usize) -> Num
+    ensures { λ r. ⌜ told r ≡ unsignedAt (now (s .entry)) at ⌝ }
+{
+    if s.len() <= at {
+        return Num::Refused(Error::UnexpectedEof);
+    }
+    let byte = s[at];
+    if byte < 128 {
+        return Num::Got(byte as u64, at + 1);
+    }
+    unsigned_more(s, at)
+}

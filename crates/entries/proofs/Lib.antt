@@ -1,0 +1,5 @@
+pub mod OperandLaws
+pub mod KindLaws
+pub mod EntryTook
+pub mod StepLaws
+pub mod EntryValues

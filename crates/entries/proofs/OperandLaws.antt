@@ -1,0 +1,104 @@
+-- The operands of an entry, one at a time: each is there and the others follow, or its refusal is the answer.
+-- Assumes nothing.
+use mathlib.Core.Path.{_≡_, refl, ap, _∙_}
+use mathlib.Core.Bool.{Bool, true, false}
+use mathlib.Core.List.{List}
+use Prim.Native.Nat.{ℕ, _+_, _≤_, _<_}
+use native.Mathlib.Omega.{arith}
+use lib.ListN.{length}
+use lib.Dec.{leb}
+use borrow.Author.Tests.{le-leb, lt-leb, leb-true}
+use Rattle.bytes.specs.Read.{Read, got, andThen, pick}
+use Rattle.bytes.specs.Error.{told, toldSplit, refusal}
+use Rattle.bytes.specs.Reader.{uint, skip, split}
+use Rattle.bytes.specs.Leb128.{unsigned}
+use Rattle.bytes.specs.declared.common.Encoding.{Encoding}
+use Rattle.bytes.specs.declared.common.DebugAddrIndex.{DebugAddrIndex}
+use Rattle.bytes.specs.declared.endianity.RunTimeEndian.{RunTimeEndian}
+use Rattle.bytes.specs.declared.error.Error.{Error}
+use Rattle.bytes.specs.declared.error.Error.the-variants.{UnexpectedEof}
+use Rattle.bytes.specs.declared.Num.{Num}
+use Rattle.bytes.specs.declared.Num.the-variants as num
+use Rattle.bytes.specs.declared.Span.{Span}
+use Rattle.bytes.specs.declared.Split.{Split}
+use Rattle.bytes.specs.declared.Split.the-variants as cut
+use Rattle.entries.specs.declared.Expression.{Expression}
+use Rattle.entries.specs.declared.operands.Data.{Data}
+use Rattle.entries.specs.declared.operands.Data.the-variants as parsed
+use Rattle.entries.specs.Told.{Step, stepOf, toldData, handed}
+use Rattle.entries.specs.Forms.{expression, addrIndex, indexed, byVersion, placed, block, operand, stop}
+
+-- a refusal that the code hands on
+pub passed-on : {E : Type 0} {t : Step E} {r : Num} {x : Error} → t ≡ stepOf (handed (got stop 0) (told r)) → r ≡ num.Refused x → t ≡ stepOf (refusal x)
+passed-on p h = rw h at p
+
+pub expression-passed-on : {E : Type 0} {t : Step E} {r : Data} {x : Error} → t ≡ stepOf (handed (got stop 0) (toldData r)) → r ≡ parsed.Refused x
+    → t ≡ stepOf (refusal x)
+expression-passed-on p h = rw h at p
+
+module _ {t : Read Expression} {x : Error} where
+  pub length-passed-on : {r : Num} → t ≡ handed (refusal UnexpectedEof) (told r) → r ≡ num.Refused x → t ≡ refusal x
+  length-passed-on p h = rw h at p
+
+  pub split-passed-on : {r : Split} → t ≡ handed (refusal UnexpectedEof) (toldSplit r) → r ≡ cut.Refused x → t ≡ refusal x
+  split-passed-on p h = rw h at p
+
+-- an operand that a call answered as r is there, and the others follow; or its refusal is the answer
+module _ {B : Type 0} {r : Num} {d : Read ℕ} (f : DebugAddrIndex → ℕ → Read B) (p : told r ≡ d) where
+  pub index-then : {v c : ℕ} → r ≡ num.Got v c → andThen (indexed d) f ≡ f (addrIndex v) c
+  index-then q = rw (← p, q)
+
+  pub no-index-then : {x : Error} → r ≡ num.Refused x → andThen (indexed d) f ≡ refusal x
+  no-index-then q = rw (← p, q)
+
+module _ {B : Type 0} {r : Data} {d : Read Expression} (f : Expression → ℕ → Read B) (p : toldData r ≡ d) where
+  pub expression-then : {v : Expression} {c : ℕ} → r ≡ parsed.Got v c → andThen d f ≡ f v c
+  expression-then q = rw (← p, q)
+
+  pub no-expression-then : {x : Error} → r ≡ parsed.Refused x → andThen d f ≡ refusal x
+  no-expression-then q = rw (← p, q)
+
+-- a length that depends on the version
+module _ (k : ℕ) (p : Encoding) (endian : RunTimeEndian) (s : List ℕ) (at : ℕ) where
+  pub from-five : 5 ≤ p .version → byVersion k p endian s at ≡ unsigned s at
+  unfolding byVersion
+  from-five h = simp (le-leb _ _ h)
+
+  pub before-five : p .version < 5 → byVersion k p endian s at ≡ uint endian k s at
+  unfolding byVersion
+  before-five h = simp (lt-leb _ _ h)
+
+abbrev moves : ℕ → Read Unit
+moves c = got tt c
+
+-- where a part was cut off
+cut-picked : (b : Bool) (n at : ℕ) {x : Span} {d : ℕ}
+    → got x d ≡ andThen (pick b (moves (at + n)) (refusal UnexpectedEof)) (λ _ c. got (record { offset = at; len = n }) c)
+    → (b ≡ true) × (x ≡ record { offset = at; len = n })
+cut-picked true n at h = (refl, cc)
+cut-picked false n at h = let z : _≡_ {A = ℕ} 0 1 = cc in absurd (omega arith)
+
+-- an expression: its length is there, and so are its bytes, or not
+module _ (p : Encoding) (endian : RunTimeEndian) (start : ℕ) (s : List ℕ) (at : ℕ) {r : Num} (h : told r ≡ byVersion 2 p endian s at) where
+  pub length-refused : {x : Error} → r ≡ num.Refused x → operand p endian start s expression at ≡ refusal x
+  length-refused q = rw (← h, q)
+
+  module _ {n c : ℕ} (q : r ≡ num.Got n c) where
+    length-got : operand p endian start s expression at ≡ block start s n c
+    length-got = rw (← h, q)
+
+    module _ {r1 : Split} (h1 : toldSplit r1 ≡ split n s c) where
+      pub block-short : {x : Error} → r1 ≡ cut.Refused x → operand p endian start s expression at ≡ refusal x
+      unfolding block
+      block-short l = length-got ∙ rw (← h1, l)
+
+      pub block-there : {x : Span} {d : ℕ} → r1 ≡ cut.Got x d → operand p endian start s expression at ≡ got (placed start x) d
+      unfolding block
+      block-there l = length-got ∙ rw (← h1, l)
+
+-- a part that was cut off starts in what it was cut from
+pub cut-within : (n : ℕ) (s : List ℕ) (c : ℕ) {r : Split} {x : Span} {d : ℕ} → toldSplit r ≡ split n s c → r ≡ cut.Got x d → x .offset ≤ length s
+unfolding split skip
+cut-within n s c h l =
+    let e = cut-picked (leb (c + n) (length s)) n c (rw l at h) in
+    omega (arith, leb-true (c + n) (length s) (e .0), ap (λ (y : Span). y .offset) (e .1))

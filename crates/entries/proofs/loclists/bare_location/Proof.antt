@@ -1,0 +1,104 @@
+-- Both addresses are there, or a refusal is the answer, and they are told apart as in the definition. Assumes nothing.
+use mathlib.Core.Path.{_≡_, sym, ap, _∙_}
+use mathlib.Core.List.{[], _∷_}
+use borrow.Author.Needs.{needs}
+use Rattle.entries.specs.Told.{stepOf}
+use Rattle.entries.specs.Kinds.{bareLocation}
+use Rattle.entries.specs.Forms.{expression, operands}
+use Rattle.entries.specs.declared.RawLocListEntry.the-variants.{AddressOrOffsetPair}
+use Rattle.entries.proofs.OperandLaws.{passed-on, expression-passed-on, expression-then, no-expression-then}
+use Rattle.entries.proofs.KindLaws.{no-begin, no-end, pair-end, pair-base, pair-offsets}
+use Rattle.entries.proofs.loclists.bare_location.Statement.{statement}
+use Rattle.entries.proofs.loclists.bare_location.Tie as tie
+
+-- neither the end nor a base address: an expression follows
+at-pair : (c : tie.Else2) → (let a = c .before .before .before .before .before .before .before .before .before .before .before .before .before .args in
+    bareLocation (a .encoding) (a .endian) (a .start) (a .part .now)
+    ≡ operands (a .encoding) (a .endian) (a .start) (a .part .now) (expression ∷ []) (AddressOrOffsetPair (c .before .before .before .before .before .before .before .before .before .r .given .0 .0) (c .before .before .before .before .before .r1 .given .0 .0)) (c .before .before .before .before .before .r1 .given .0 .1 .0))
+at-pair c = pair-offsets _ _ _ _ _ _ _ (c .before .before .before .before .before .before .before .before .before .before .before .read-address .ensures) (c .before .before .before .before .before .before .before .before .before .r .given .1) (c .before .before .before .before .before .before .before .read-address2 .ensures) (c .before .before .before .before .before .r1 .given .1) (sym (c .before .before .before .is-end .ensures) ∙ c .before .before .if1 .left) (c .before .ones-sized .ensures) (c .if2 .left)
+
+read-address-requires : tie.Need-read-address-requires
+read-address-requires c κs = search needs
+
+enum-known-r : tie.Need-enum-known-r
+enum-known-r c = search needs
+
+enum-told : tie.Need-enum-told
+enum-told c = search needs
+
+passed-requires : tie.Need-passed-requires
+passed-requires c κs = search needs
+
+returns : tie.Need-returns
+returns c = passed-on (c .passed .ensures) (c .before .enum-told .given .1) ∙ ap stepOf (sym (no-begin _ _ _ _ _ _ _ (c .before .before .before .read-address .ensures) (c .before .enum-told .given .1)))
+
+read-address-requires-2 : tie.Need-read-address-requires-2
+read-address-requires-2 c κs = search needs
+
+enum-known-r1 : tie.Need-enum-known-r1
+enum-known-r1 c = search needs
+
+enum-told-2 : tie.Need-enum-told-2
+enum-told-2 c = search needs
+
+passed-requires-2 : tie.Need-passed-requires-2
+passed-requires-2 c κs = search needs
+
+returns-2 : tie.Need-returns-2
+returns-2 c = passed-on (c .passed2 .ensures) (c .before .enum-told2 .given .1)
+    ∙ ap stepOf (sym (no-end _ _ _ _ _ _ _ (c .before .before .before .before .before .before .before .read-address .ensures) (c .before .before .before .before .before .r .given .1) (c .before .before .before .read-address2 .ensures) (c .before .enum-told2 .given .1)))
+
+is-end-requires : tie.Need-is-end-requires
+is-end-requires c κs = search needs
+
+returns-3 : tie.Need-returns-3
+returns-3 c = ap stepOf (sym (pair-end _ _ _ _ _ _ _ (c .before .before .before .before .before .before .before .before .before .read-address .ensures) (c .before .before .before .before .before .before .before .r .given .1) (c .before .before .before .before .before .read-address2 .ensures) (c .before .before .before .r1 .given .1) (sym (c .before .is-end .ensures) ∙ c .if1 .taken)))
+
+ones-sized-requires : tie.Need-ones-sized-requires
+ones-sized-requires c κs = search needs
+
+returns-4 : tie.Need-returns-4
+returns-4 c = ap stepOf (sym (pair-base _ _ _ _ _ _ _ (c .before .before .before .before .before .before .before .before .before .before .before .read-address .ensures) (c .before .before .before .before .before .before .before .before .before .r .given .1) (c .before .before .before .before .before .before .before .read-address2 .ensures) (c .before .before .before .before .before .r1 .given .1) (sym (c .before .before .before .is-end .ensures) ∙ c .before .before .if1 .left) (c .before .ones-sized .ensures) (c .if2 .taken)))
+
+read-expression-requires : tie.Need-read-expression-requires
+read-expression-requires c κs = search needs
+
+enum-known-r2 : tie.Need-enum-known-r2
+enum-known-r2 c = search needs
+
+enum-told-3 : tie.Need-enum-told-3
+enum-told-3 c = search needs
+
+passed-data-requires : tie.Need-passed-data-requires
+passed-data-requires c κs = search needs
+
+returns-5 : tie.Need-returns-5
+returns-5 c = expression-passed-on (c .passed-data .ensures) (c .before .enum-told3 .given .1) ∙ ap stepOf (sym (at-pair (c .before .before .before .before) ∙ no-expression-then _ (c .before .before .before .read-expression .ensures) (c .before .enum-told3 .given .1)))
+
+returns-6 : tie.Need-returns-6
+returns-6 c = ap stepOf (sym (at-pair (c .before .before .before .before) ∙ expression-then _ (c .before .before .before .read-expression .ensures) (c .before .r2 .given .1)))
+
+pub bare-location-spec : {M : Type 1} → statement M
+bare-location-spec =
+    tie.close
+    (tie.spec
+    read-address-requires
+    enum-known-r
+    enum-told
+    passed-requires
+    returns
+    read-address-requires-2
+    enum-known-r1
+    enum-told-2
+    passed-requires-2
+    returns-2
+    is-end-requires
+    returns-3
+    ones-sized-requires
+    returns-4
+    read-expression-requires
+    enum-known-r2
+    enum-told-3
+    passed-data-requires
+    returns-5
+    returns-6)

@@ -1,0 +1,68 @@
+-- The forms of operands, and reading them: one definition for both lists, all versions, address sizes and byte orders.
+-- A list is read in a part of its section; start is where the part starts.
+use Prim.Native.Nat.{ℕ, _+_}
+use mathlib.Core.List.{List, [], _∷_}
+use lib.Dec.{leb}
+use Rattle.bytes.specs.Read.{Read, got, andThen, pick}
+use Rattle.bytes.specs.Reader.{uint, split, address as addressAt}
+use Rattle.bytes.specs.Leb128.{unsigned}
+use Rattle.bytes.specs.declared.common.Encoding.{Encoding}
+use Rattle.bytes.specs.declared.common.DebugAddrIndex.{DebugAddrIndex}
+use Rattle.bytes.specs.declared.endianity.RunTimeEndian.{RunTimeEndian}
+use Rattle.bytes.specs.declared.Span.{Span}
+use Rattle.entries.specs.declared.Expression.{Expression}
+
+-- an operand in the bytes: an index into the address table, a LEB128 number, location kind 3's length, an address, an
+-- expression (DWARF 5, 2.17.3 and 2.6.2)
+pub data Form : Type 0 where
+  index number span address expression : Form
+
+-- what is read of it
+abbrev pub Value : Form → Type 0
+Value index = DebugAddrIndex
+Value number = ℕ
+Value span = ℕ
+Value address = ℕ
+Value expression = Expression
+
+abbrev pub addrIndex : ℕ → DebugAddrIndex
+addrIndex i = record { 0 = i }
+
+abbrev pub indexed : Read ℕ → Read DebugAddrIndex
+indexed r = andThen r (λ i c. got (addrIndex i) c)
+
+-- a length: LEB128 from version 5 on; before, some number of bytes, as GNU split lists and bare pairs have it
+unfoldable pub byVersion : ℕ → Encoding → RunTimeEndian → List ℕ → ℕ → Read ℕ
+byVersion size p endian s at = pick (leb 5 (p .version)) (unsigned s at) (uint endian size s at)
+
+-- an expression's place is counted from the section's start
+abbrev pub placed : ℕ → Span → Expression
+placed start x = record { offset = start + x .offset; len = x .len }
+
+-- as many bytes as the length says
+unfoldable pub block : ℕ → List ℕ → ℕ → ℕ → Read Expression
+block start s n c = andThen (split n s c) (λ x d. got (placed start x) d)
+
+-- an operand of a form at a place; up to version 4 span is four bytes and an expression's length two
+abbrev pub operand : Encoding → RunTimeEndian → ℕ → List ℕ → (f : Form) → ℕ → Read (Value f)
+operand p endian start s index at = indexed (unsigned s at)
+operand p endian start s number at = unsigned s at
+operand p endian start s span at = byVersion 4 p endian s at
+operand p endian start s address at = addressAt endian (p .«address_size») s at
+operand p endian start s expression at = andThen (byVersion 2 p endian s at) (block start s)
+
+-- a function of the operands' values
+abbrev pub Takes : List Form → Type 0 → Type 0
+Takes [] E = E
+Takes (f ∷ fs) E = Value f → Takes fs E
+
+-- what stands at a place of a list: its end, or an entry
+pub data Raw (E : Type 0) : Type 0 where
+  stop : Raw E
+  entry : E → Raw E
+
+-- the operands one after the other, handed to what they mean
+abbrev pub operands : {E : Type 0} → Encoding → RunTimeEndian → ℕ → List ℕ → (fs : List Form) → Takes fs E → ℕ → Read (Raw E)
+operands p endian start s [] e at = got (entry e) at
+operands p endian start s (f ∷ fs) e at =
+    andThen (operand p endian start s f at) (λ v c. operands p endian start s fs (e v) c)

@@ -1,0 +1,98 @@
+// What the readers of both lists share: operands whose form depends on the version, and a bare pair's end mark.
+use super::Expression;
+use bytes::Num;
+use bytes::Split;
+use bytes::common::Encoding;
+use bytes::endianity::RunTimeEndian;
+use bytes::error::Error;
+ghost use mathlib.Core.Path.{_≡_};
+ghost use Prim.Native.Nat.{_+_, _<_, _^_};
+ghost use lib.ListN.{length};
+ghost use Rattle.bytes.specs.Error.{told, toldSplit, refusal};
+ghost use Rattle.bytes.specs.declared.error.Error.the-variants.{UnexpectedEof};
+ghost use Rattle.entries.specs.Told.{toldData, handed};
+ghost use Rattle.entries.specs.Forms.{expression, byVersion, operand};
+ghost use Rattle.entries.specs.Kinds.{isEnd};
+
+// An expression that was read, with the place after it.
+pub enum Data {
+    Got(Expression, usize),
+    Refused(Error),
+}
+
+// The length of location kind 3: LEB128, and four bytes in split lists up to version 4. 1, 2.
+pub(crate) fn read_length(part: &[u8], at: usize, encoding: Encoding, endian: RunTimeEndian) -> Num
+    ensures { λ r. ⌜ told r ≡ byVersion 4 encoding endian (now (part .entry)) at ⌝ }
+{
+    if 5 <= encoding.version {
+        return bytes::leb128::unsigned(part, at);
+    }
+    bytes::reader::read_u32(part, at, endian)
+}
+
+// The length of an expression: LEB128, and two bytes up to version 4. 1, 2.
+fn read_expression_length(part: &[u8], at: usize, encoding: Encoding, endian: RunTimeEndian) -> Num
+    ensures { λ r. ⌜ told r ≡ byVersion 2 encoding endian (now (part .entry)) at ⌝ }
+{
+    if 5 <= encoding.version {
+        return bytes::leb128::unsigned(part, at);
+    }
+    bytes::reader::read_u16(part, at, endian)
+}
+
+// A refusal of a length passed on.
+fn passed(r: Num) -> Data
+    ensures { λ q. ⌜ toldData q ≡ handed (refusal UnexpectedEof) (told r) ⌝ }
+{
+    match r {
+        Num::Got(_, _) => Data::Refused(Error::UnexpectedEof),
+        Num::Refused(e) => Data::Refused(e),
+    }
+}
+
+fn passed_split(r: Split) -> Data
+    ensures { λ q. ⌜ toldData q ≡ handed (refusal UnexpectedEof) (toldSplit r) ⌝ }
+{
+    match r {
+        Split::Got(_, _) => Data::Refused(Error::UnexpectedEof),
+        Split::Refused(e) => Data::Refused(e),
+    }
+}
+
+// An expression of a part that starts at a place of its section: its length, and as many bytes. 1, 2.
+pub(crate) fn read_expression(
+    part: &[u8],
+    at: usize,
+    start: usize,
+    encoding: Encoding,
+    endian: RunTimeEndian,
+) -> Data
+    requires { ⌜ start + length (now part) < 2 ^ 64 ⌝ }
+    ensures { λ r. ⌜ toldData r ≡ operand encoding endian start (now (part .entry)) expression at ⌝ }
+{
+    let r = read_expression_length(part, at, encoding, endian);
+    let Num::Got(n, c) = r else {
+        return passed(r);
+    };
+    let r1 = bytes::reader::split(part, c, n);
+    let Split::Got(span, c1) = r1 else {
+        return passed_split(r1);
+    };
+    Data::Got(
+        Expression {
+            offset: start + span.offset,
+            len: span.len,
+        },
+        c1,
+    )
+}
+
+// Whether a bare pair ends its list.
+pub(crate) fn is_end(begin: u64, end: u64) -> bool
+    ensures { λ r. ⌜ r ≡ isEnd begin end ⌝ }
+{
+    if begin == 0 {
+        return end == 0;
+    }
+    false
+}

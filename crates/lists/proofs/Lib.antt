@@ -1,0 +1,6 @@
+pub mod WalkLaws
+pub mod Past
+pub mod ConvertLaws
+pub mod Theorems
+pub mod Bounds
+pub mod Local

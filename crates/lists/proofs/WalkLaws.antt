@@ -1,0 +1,84 @@
+-- The trace an entry at a time, for any listing whose entries end past their place: fuel does not show any more.
+use mathlib.Core.Path.{_≡_, refl, sym, ap, _∙_, subst}
+use mathlib.Core.Bool.{Bool, true, false}
+use mathlib.Core.List.{List}
+use Prim.Native.Nat.{ℕ, zero, suc, _+_, _≤_, _<_}
+use native.Mathlib.Omega.{arith}
+use lib.Dec.{leb}
+use borrow.Author.Tests.{le-leb, lt-leb, leb-true, leb-false}
+use Rattle.bytes.specs.Read.{Read, got, refused, Result, pick}
+use Rattle.bytes.specs.Reader.{isSize}
+use Rattle.bytes.specs.declared.common.DebugAddrIndex.{DebugAddrIndex}
+use Rattle.bytes.specs.declared.error.Error.the-variants.{UnsupportedAddressSize}
+use Rattle.bytes.proofs.Took.{pick-ind}
+use Rattle.tables.specs.Next.{Next, yields, ends, stops, stopped}
+use Rattle.entries.specs.Forms.{Raw, stop, entry}
+use Rattle.lists.specs.Open.{walkAt}
+use Rattle.lists.specs.Convert.{Turn, range, rebase, skip, missing, convert}
+use Rattle.lists.specs.Walk.{Listing, Item, item, Trace, over, gave, lost, onTurn, onRead, traceFrom, trace, first, next}
+use Rattle.lists.specs.declared.Walk.{Walk}
+
+-- what was read ends past its place and in the section
+abbrev pub Moved : {A : Type 0} → ℕ → ℕ → Read A → Type 0
+Moved at len (got v c) = (at < c) × (c ≤ len)
+Moved at len (refused n vs) = Unit
+
+pub pick-else : {A : Type 0} (t : Bool) (x : A) {y z : A} → (t ≡ false → y ≡ z) → pick t x y ≡ pick t x z
+pick-else true x h = refl
+pick-else false x h = h refl
+
+pub turn-cong : {D : Type 0} (t : Turn) (d : D) (c base : ℕ) (f g : ℕ → ℕ → Trace D) → ((b : ℕ) → f c b ≡ g c b) → onTurn t d c base f ≡ onTurn t d c base g
+turn-cong (range b e) d c base f g h = ap (gave (item b e d) (walkAt c base)) (h base)
+turn-cong (rebase b) d c base f g h = h b
+turn-cong skip d c base f g h = h base
+turn-cong (missing n vs) d c base f g h = ap (lost n vs (walkAt c base)) (h base)
+
+module _ (l : Listing) (table : DebugAddrIndex → Result ℕ) (size len : ℕ) (past : (at : ℕ) → at < len → Moved at len (l .read at)) where
+  read-cong : (at base : ℕ) (r : Read (Raw (l .Entry))) (f g : ℕ → ℕ → Trace (l .Carried)) → Moved at len r → ((c b : ℕ) → at < c → f c b ≡ g c b)
+      → onRead l table size len base r f ≡ onRead l table size len base r g
+  read-cong at base (got (entry e) c) f g p h = turn-cong (convert table size base (l .boundsOf e)) (l .carried e) c base f g (λ b. h c b (p .0))
+  read-cong at base (got stop c) f g p h = refl
+  read-cong at base (refused n vs) f g p h = refl
+
+  -- more fuel changes nothing, once there is as much as there are bytes left
+  pub enough : (n m at base : ℕ) → len ≤ at + n → len ≤ at + m → traceFrom l table size len n at base ≡ traceFrom l table size len m at base
+  unfolding traceFrom
+  enough zero zero at base h k = refl
+  enough zero (suc m) at base h k = let q : len ≤ at = omega arith in simp (le-leb _ _ q)
+  enough (suc n) zero at base h k = let q : len ≤ at = omega arith in simp (le-leb _ _ q)
+  enough (suc n) (suc m) at base h k =
+      pick-else (leb len at) (over (walkAt at base)) (λ f.
+      read-cong at base (l .read at) (traceFrom l table size len n) (traceFrom l table size len m) (past at (leb-false len at f)) (λ c b d. enough n m c b (omega arith) (omega arith)))
+
+  module _ (at base : ℕ) where
+    pub trace-over : len ≤ at → trace l table size len (walkAt at base) ≡ over (walkAt at base)
+    unfolding trace traceFrom
+    trace-over h = enough len zero at base (omega arith) (omega arith)
+
+    -- the definition with no fuel
+    pub trace-step : at < len → trace l table size len (walkAt at base) ≡ onRead l table size len base (l .read at) (λ c b. trace l table size len (walkAt c b))
+    unfolding trace traceFrom
+    trace-step h = enough len (suc len) at base (omega arith) (omega arith) ∙ simp (lt-leb _ _ h)
+
+    module _ (h : at < len) where
+      pub met-end : {c : ℕ} → l .read at ≡ got stop c → trace l table size len (walkAt at base) ≡ over (walkAt len base)
+      met-end q = trace-step h ∙ ap (λ (r : Read (Raw (l .Entry))). onRead l table size len base r (λ c b. trace l table size len (walkAt c b))) q
+
+      pub met-refusal : {n : ℕ} {vs : List ℕ} → l .read at ≡ refused n vs → trace l table size len (walkAt at base) ≡ lost n vs (walkAt len base) (over (walkAt len base))
+      met-refusal q = trace-step h ∙ ap (λ (r : Read (Raw (l .Entry))). onRead l table size len base r (λ c b. trace l table size len (walkAt c b))) q
+
+      pub met-entry : {e : l .Entry} {c : ℕ} {t : Turn} → l .read at ≡ got (entry e) c → t ≡ convert table size base (l .boundsOf e)
+          → trace l table size len (walkAt at base) ≡ onTurn t (l .carried e) c base (λ c b. trace l table size len (walkAt c b))
+      met-entry {e} {c} q p =
+          trace-step h
+          ∙ ap (λ (r : Read (Raw (l .Entry))). onRead l table size len base r (λ c b. trace l table size len (walkAt c b))) q
+          ∙ ap (λ (x : Turn). onTurn x (l .carried e) c base (λ c b. trace l table size len (walkAt c b))) (sym p)
+
+module _ (l : Listing) (table : DebugAddrIndex → Result ℕ) (size len : ℕ) (w : Walk) where
+  pub next-first : isSize size ≡ true → next l table size len w ≡ first (trace l table size len w)
+  unfolding next
+  next-first h = simp h
+
+  pub next-other : isSize size ≡ false → next l table size len w ≡ stopped (UnsupportedAddressSize size) (walkAt len (w .«base_address»))
+  unfolding next
+  next-other h = simp h

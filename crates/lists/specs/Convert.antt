@@ -1,0 +1,104 @@
+-- What a raw entry comes to (DWARF 5, 2.17.3 and 2.6.2): one definition for both lists. The skips are gimli's.
+use Prim.Native.Nat.{ℕ, _-_, _^_}
+use mathlib.Core.List.{List}
+use lib.Dec.{leb}
+use Rattle.bytes.specs.Read.{Result, gives, refuses, pick}
+use Rattle.bytes.specs.Error.{number, values}
+use Rattle.bytes.specs.Address.{addSized, minTombstone}
+use Rattle.bytes.specs.declared.common.DebugAddrBase.{DebugAddrBase}
+use Rattle.bytes.specs.declared.common.DebugAddrIndex.{DebugAddrIndex}
+use Rattle.bytes.specs.declared.common.Encoding.{Encoding}
+use Rattle.bytes.specs.declared.endianity.RunTimeEndian.{RunTimeEndian}
+use Rattle.tables.specs.Addr.{addressAt}
+use Rattle.tables.specs.declared.addr.AddressAnswer.{AddressAnswer}
+use Rattle.tables.specs.declared.addr.AddressAnswer.the-variants as address
+use Rattle.entries.specs.declared.Expression.{Expression}
+use Rattle.entries.specs.declared.RawRngListEntry.{RawRngListEntry}
+use Rattle.entries.specs.declared.RawRngListEntry.the-variants.{
+  AddressOrOffsetPair,
+  BaseAddress,
+  BaseAddressx,
+  StartxEndx,
+  StartxLength,
+  OffsetPair,
+  StartEnd,
+  StartLength,
+}
+use Rattle.entries.specs.declared.RawLocListEntry.{RawLocListEntry}
+use Rattle.entries.specs.declared.RawLocListEntry.the-variants as loc
+use Rattle.lists.specs.declared.convert.Converted.{Converted}
+use Rattle.lists.specs.declared.convert.Converted.the-variants as code
+
+-- a range, another base address, nothing, or a refused lookup
+pub data Turn : Type 0 where
+  range : ℕ → ℕ → Turn
+  rebase : ℕ → Turn
+  skip : Turn
+  missing : ℕ → List ℕ → Turn
+
+abbrev pub told : Converted → Turn
+told (code.Range r) = range (r .begin) (r .end)
+told (code.Base a) = rebase a
+told code.Skip = skip
+told (code.Refused e) = missing (number e) (values e)
+
+-- a range is skipped when its begin is at or above the tombstone bound, or not below its end
+abbrev pub bounded : ℕ → ℕ → ℕ → Turn
+bounded size b e = pick (leb (minTombstone size) b) skip (pick (leb e b) skip (range b e))
+
+-- offsets from the base address; skipped when the base itself is at or above the bound, whatever the sums are
+abbrev pub offsets : ℕ → ℕ → ℕ → ℕ → Turn
+offsets size base b e =
+    pick (leb (minTombstone size) base) skip (bounded size (addSized base b size) (addSized base e size))
+
+-- what follows an address that was looked up; a refusal is the answer
+abbrev pub looked : Result ℕ → (ℕ → Turn) → Turn
+looked (gives a) f = f a
+looked (refuses n vs) f = missing n vs
+
+-- a refusal handed on by the code
+abbrev pub passedOf : AddressAnswer → Converted
+passedOf (address.Address a) = code.Skip
+passedOf (address.Refused e) = code.Refused e
+
+-- the address of an index, in the table that a list is read with
+abbrev pub tableAt : RunTimeEndian → Encoding → DebugAddrBase → List ℕ → DebugAddrIndex → Result ℕ
+tableAt endian p base table i = addressAt endian (p .«address_size») base i table
+
+-- by the address table's answers, the size and the base address; a begin is looked up before its end
+unfoldable pub convert : (DebugAddrIndex → Result ℕ) → ℕ → ℕ → RawRngListEntry → Turn
+convert at size base (AddressOrOffsetPair b e) = offsets size base b e
+convert at size base (BaseAddress a) = rebase a
+convert at size base (BaseAddressx i) = looked (at i) rebase
+convert at size base (StartxEndx i j) = looked (at i) (λ b. looked (at j) (λ e. bounded size b e))
+convert at size base (StartxLength i n) = looked (at i) (λ b. bounded size b (addSized b n size))
+convert at size base (OffsetPair b e) = offsets size base b e
+convert at size base (StartEnd b e) = bounded size b e
+convert at size base (StartLength b n) = bounded size b (addSized b n size)
+
+-- a location's bounds as a range entry; that a default location spans 0 to 2^64 - 1 is gimli's
+abbrev pub bounds : RawLocListEntry → RawRngListEntry
+bounds (loc.AddressOrOffsetPair b e x) = AddressOrOffsetPair b e
+bounds (loc.BaseAddress a) = BaseAddress a
+bounds (loc.BaseAddressx i) = BaseAddressx i
+bounds (loc.StartxEndx i j x) = StartxEndx i j
+bounds (loc.StartxLength i n x) = StartxLength i n
+bounds (loc.OffsetPair b e x) = OffsetPair b e
+bounds (loc.DefaultLocation x) = StartEnd 0 (2 ^ 64 - 1)
+bounds (loc.StartEnd b e x) = StartEnd b e
+bounds (loc.StartLength b n x) = StartLength b n
+
+-- a location's expression; where there is none, the empty part at the section's start
+abbrev pub noExpression : Expression
+noExpression = record { offset = 0; len = 0 }
+
+abbrev pub expressionOf : RawLocListEntry → Expression
+expressionOf (loc.AddressOrOffsetPair b e x) = x
+expressionOf (loc.BaseAddress a) = noExpression
+expressionOf (loc.BaseAddressx i) = noExpression
+expressionOf (loc.StartxEndx i j x) = x
+expressionOf (loc.StartxLength i n x) = x
+expressionOf (loc.OffsetPair b e x) = x
+expressionOf (loc.DefaultLocation x) = x
+expressionOf (loc.StartEnd b e x) = x
+expressionOf (loc.StartLength b n x) = x

@@ -1,0 +1,30 @@
+-- Opening a list: a place in its section and a base address.
+use Prim.Native.Nat.{ℕ}
+use mathlib.Core.List.{List}
+use lib.Dec.{leb}
+use lib.ListN.{length}
+use Rattle.bytes.specs.Read.{Result, gives, pick}
+use Rattle.bytes.specs.Error.{refusing}
+use Rattle.bytes.specs.Reader.{isSize}
+use Rattle.bytes.specs.declared.common.Encoding.{Encoding}
+use Rattle.bytes.specs.declared.error.Error.the-variants.{UnexpectedEof, UnsupportedAddressSize}
+use Rattle.lists.specs.declared.Walk.{Walk}
+use Rattle.lists.specs.declared.Opened.{Opened}
+use Rattle.lists.specs.declared.Opened.the-variants as answer
+
+abbrev pub walkAt : ℕ → ℕ → Walk
+walkAt at base = record { at = at; «base_address» = base }
+
+-- an offset at the section's end opens an empty list; the address size is looked at first
+unfoldable pub opened : Encoding → List ℕ → ℕ → ℕ → Result Walk
+opened p s offset base =
+    pick (isSize (p .«address_size»)) (pick (leb offset (length s)) (gives (walkAt offset base)) (refusing UnexpectedEof))
+    (refusing (UnsupportedAddressSize (p .«address_size»)))
+
+abbrev pub toldOpened : Opened → Result Walk
+toldOpened (answer.List w) = gives w
+toldOpened (answer.Refused e) = refusing e
+
+-- lists of version 5 and above stand in a section of their own (DWARF 5, 7.28 and 7.29)
+unfoldable pub byVersion : Encoding → List ℕ → List ℕ → List ℕ
+byVersion p older newer = pick (leb (p .version) 4) older newer

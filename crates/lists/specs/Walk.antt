@@ -1,0 +1,174 @@
+-- What a list does, from its bytes alone, and what each call of a walk hands out: one definition for both lists.
+use Prim.Native.Nat.{ℕ, zero, suc}
+use mathlib.Core.List.{List}
+use mathlib.Core.Bool.{Bool, false}
+use lib.ListN.{length}
+use lib.Dec.{leb}
+use Rattle.bytes.specs.Read.{Read, got, refused, Result, pick}
+use Rattle.bytes.specs.Error.{number, values}
+use Rattle.bytes.specs.Reader.{isSize}
+use Rattle.bytes.specs.declared.common.DebugAddrBase.{DebugAddrBase}
+use Rattle.bytes.specs.declared.common.DebugAddrIndex.{DebugAddrIndex}
+use Rattle.bytes.specs.declared.common.Encoding.{Encoding}
+use Rattle.bytes.specs.declared.endianity.RunTimeEndian.{RunTimeEndian}
+use Rattle.bytes.specs.declared.error.Error.the-variants.{UnsupportedAddressSize}
+use Rattle.tables.specs.Next.{Next, yields, ends, stops, stopped}
+use Rattle.entries.specs.Forms.{Raw, stop, entry}
+use Rattle.entries.specs.Kinds.{rawRange, rawLocation}
+use Rattle.entries.specs.declared.Expression.{Expression}
+use Rattle.entries.specs.declared.RawRngListEntry.{RawRngListEntry}
+use Rattle.entries.specs.declared.RawLocListEntry.{RawLocListEntry}
+use Rattle.lists.specs.Open.{walkAt}
+use Rattle.lists.specs.Convert.{Turn, range, rebase, skip, missing, convert, tableAt, bounds, expressionOf}
+use Rattle.lists.specs.declared.Walk.{Walk}
+use Rattle.lists.specs.declared.rnglists.RawRngAnswer.{RawRngAnswer}
+use Rattle.lists.specs.declared.rnglists.RawRngAnswer.the-variants as rawRng
+use Rattle.lists.specs.declared.rnglists.RngConverted.{RngConverted}
+use Rattle.lists.specs.declared.rnglists.RngConverted.the-variants as convertedRng
+use Rattle.lists.specs.declared.rnglists.RngAnswer.{RngAnswer}
+use Rattle.lists.specs.declared.rnglists.RngAnswer.the-variants as rng
+use Rattle.lists.specs.declared.loclists.RawLocAnswer.{RawLocAnswer}
+use Rattle.lists.specs.declared.loclists.RawLocAnswer.the-variants as rawLoc
+use Rattle.lists.specs.declared.loclists.LocConverted.{LocConverted}
+use Rattle.lists.specs.declared.loclists.LocConverted.the-variants as convertedLoc
+use Rattle.lists.specs.declared.loclists.LocAnswer.{LocAnswer}
+use Rattle.lists.specs.declared.loclists.LocAnswer.the-variants as loc
+
+-- a list's entries: how one is read at a place, its bounds, and what else it carries
+pub record Listing : Type 1 where
+  pub Entry : Type 0
+  pub Carried : Type 0
+  pub read : ℕ → Read (Raw Entry)
+  pub boundsOf : Entry → RawRngListEntry
+  pub carried : Entry → Carried
+
+abbrev pub ranges : Encoding → RunTimeEndian → List ℕ → Listing
+ranges p endian s =
+    record { Entry = RawRngListEntry; Carried = Unit; read = rawRange p endian s; boundsOf = λ e. e; carried = λ e. tt }
+
+abbrev pub locations : Bool → Encoding → RunTimeEndian → List ℕ → Listing
+locations split p endian s =
+    record { Entry = RawLocListEntry; Carried = Expression; read = rawLocation split p endian s; boundsOf = bounds; carried = expressionOf }
+
+-- a range with what it carries
+pub data Item (D : Type 0) : Type 0 where
+  item : ℕ → ℕ → D → Item D
+
+-- what a list does: it hands out an item or a refusal, with the walk then, and goes on; or it is over
+pub data Trace (D : Type 0) : Type 0 where
+  over : Walk → Trace D
+  gave : Item D → Walk → Trace D → Trace D
+  lost : ℕ → List ℕ → Walk → Trace D → Trace D
+
+-- what an entry that ends at c comes to; a failed lookup leaves base and place to go on from
+abbrev pub onTurn : {D : Type 0} → Turn → D → ℕ → ℕ → (ℕ → ℕ → Trace D) → Trace D
+onTurn (range b e) d c base go = gave (item b e d) (walkAt c base) (go c base)
+onTurn (rebase b) d c base go = go c b
+onTurn skip d c base go = go c base
+onTurn (missing n vs) d c base go = lost n vs (walkAt c base) (go c base)
+
+-- a raw refusal and the end mark empty the walk: its place is then the section's length
+abbrev pub onRead : (l : Listing) → (DebugAddrIndex → Result ℕ) → ℕ → ℕ → ℕ → Read (Raw (l .Entry)) → (ℕ → ℕ → Trace (l .Carried)) → Trace (l .Carried)
+onRead l table size len base (got (entry e) c) go = onTurn (convert table size base (l .boundsOf e)) (l .carried e) c base go
+onRead l table size len base (got stop c) go = over (walkAt len base)
+onRead l table size len base (refused n vs) go = lost n vs (walkAt len base) (over (walkAt len base))
+
+-- from a place on, at most n entries: each takes a byte at least, so as many as there are bytes are enough
+unfoldable pub traceFrom : (l : Listing) → (DebugAddrIndex → Result ℕ) → ℕ → ℕ → ℕ → ℕ → ℕ → Trace (l .Carried)
+traceFrom l table size len zero at base = over (walkAt at base)
+traceFrom l table size len (suc n) at base =
+    pick (leb len at) (over (walkAt at base)) (onRead l table size len base (l .read at) (traceFrom l table size len n))
+
+unfoldable pub trace : (l : Listing) → (DebugAddrIndex → Result ℕ) → ℕ → ℕ → Walk → Trace (l .Carried)
+trace l table size len w = traceFrom l table size len len (w .at) (w .«base_address»)
+
+-- a call hands out what the list does first
+abbrev pub first : {D : Type 0} → Trace D → Next (Item D) Walk
+first (over w) = ends w
+first (gave i w t) = yields i w
+first (lost n vs w t) = stops n vs w
+
+-- other sizes are refused before all else, and the walk is emptied
+unfoldable pub next : (l : Listing) → (DebugAddrIndex → Result ℕ) → ℕ → ℕ → Walk → Next (Item (l .Carried)) Walk
+next l table size len w =
+    pick (isSize size) (first (trace l table size len w)) (stopped (UnsupportedAddressSize size) (walkAt len (w .«base_address»)))
+
+-- the raw entry of a call
+abbrev pub onRaw : {E : Type 0} → ℕ → ℕ → Read (Raw E) → Next E Walk
+onRaw len base (got (entry e) c) = yields e (walkAt c base)
+onRaw len base (got stop c) = ends (walkAt len base)
+onRaw len base (refused n vs) = stops n vs (walkAt len base)
+
+unfoldable pub nextRaw : (l : Listing) → ℕ → ℕ → Walk → Next (l .Entry) Walk
+nextRaw l size len w =
+    pick (isSize size)
+    (pick (leb len (w .at)) (ends w) (onRaw len (w .«base_address») (l .read (w .at))))
+    (stopped (UnsupportedAddressSize size) (walkAt len (w .«base_address»)))
+
+-- what a raw entry comes to under a walk: an item, nothing, or a refusal; and the walk then
+pub data Outcome (D : Type 0) : Type 0 where
+  gives : Item D → Walk → Outcome D
+  nothing : Walk → Outcome D
+  refuses : ℕ → List ℕ → Walk → Outcome D
+
+abbrev pub outcome : {D : Type 0} → Walk → D → Turn → Outcome D
+outcome w d (range b e) = gives (item b e d) w
+outcome w d (rebase b) = nothing (walkAt (w .at) b)
+outcome w d skip = nothing w
+outcome w d (missing n vs) = refuses n vs w
+
+unfoldable pub convertRaw : (l : Listing) → (DebugAddrIndex → Result ℕ) → ℕ → Walk → l .Entry → Outcome (l .Carried)
+convertRaw l table size w e =
+    pick (isSize size) (outcome w (l .carried e) (convert table size (w .«base_address») (l .boundsOf e)))
+    (refuses (number (UnsupportedAddressSize size)) (values (UnsupportedAddressSize size)) w)
+
+-- the two lists' calls, from the section, the address table, its base and the walk
+abbrev pub nextRange : Encoding → RunTimeEndian → List ℕ → List ℕ → DebugAddrBase → Walk → Next (Item Unit) Walk
+nextRange p endian s table base w = next (ranges p endian s) (tableAt endian p base table) (p .«address_size») (length s) w
+
+abbrev pub nextRawRange : Encoding → RunTimeEndian → List ℕ → Walk → Next RawRngListEntry Walk
+nextRawRange p endian s w = nextRaw (ranges p endian s) (p .«address_size») (length s) w
+
+abbrev pub convertedRange : Encoding → RunTimeEndian → List ℕ → DebugAddrBase → Walk → RawRngListEntry → Outcome Unit
+convertedRange p endian table base w e = convertRaw (ranges p endian table) (tableAt endian p base table) (p .«address_size») w e
+
+abbrev pub nextLocation : Bool → Encoding → RunTimeEndian → List ℕ → List ℕ → DebugAddrBase → Walk → Next (Item Expression) Walk
+nextLocation split p endian s table base w =
+    next (locations split p endian s) (tableAt endian p base table) (p .«address_size») (length s) w
+
+abbrev pub nextRawLocation : Bool → Encoding → RunTimeEndian → List ℕ → Walk → Next RawLocListEntry Walk
+nextRawLocation split p endian s w = nextRaw (locations split p endian s) (p .«address_size») (length s) w
+
+abbrev pub convertedLocation : Encoding → RunTimeEndian → List ℕ → DebugAddrBase → Walk → RawLocListEntry → Outcome Expression
+convertedLocation p endian table base w e = convertRaw (locations false p endian table) (tableAt endian p base table) (p .«address_size») w e
+
+-- the code's answers told so
+abbrev pub toldRawRange : RawRngAnswer → Next RawRngListEntry Walk
+toldRawRange (rawRng.Entry e w) = yields e w
+toldRawRange (rawRng.End w) = ends w
+toldRawRange (rawRng.Refused e w) = stopped e w
+
+abbrev pub toldConvertedRange : RngConverted → Outcome Unit
+toldConvertedRange (convertedRng.Range r w) = gives (item (r .begin) (r .end) tt) w
+toldConvertedRange (convertedRng.Nothing w) = nothing w
+toldConvertedRange (convertedRng.Refused e w) = refuses (number e) (values e) w
+
+abbrev pub toldNextRange : RngAnswer → Next (Item Unit) Walk
+toldNextRange (rng.Range r w) = yields (item (r .begin) (r .end) tt) w
+toldNextRange (rng.End w) = ends w
+toldNextRange (rng.Refused e w) = stopped e w
+
+abbrev pub toldRawLocation : RawLocAnswer → Next RawLocListEntry Walk
+toldRawLocation (rawLoc.Entry e w) = yields e w
+toldRawLocation (rawLoc.End w) = ends w
+toldRawLocation (rawLoc.Refused e w) = stopped e w
+
+abbrev pub toldConvertedLocation : LocConverted → Outcome Expression
+toldConvertedLocation (convertedLoc.Location x w) = gives (item (x .range .begin) (x .range .end) (x .«data»)) w
+toldConvertedLocation (convertedLoc.Nothing w) = nothing w
+toldConvertedLocation (convertedLoc.Refused e w) = refuses (number e) (values e) w
+
+abbrev pub toldNextLocation : LocAnswer → Next (Item Expression) Walk
+toldNextLocation (loc.Location x w) = yields (item (x .range .begin) (x .range .end) (x .«data»)) w
+toldNextLocation (loc.End w) = ends w
+toldNextLocation (loc.Refused e w) = stopped e w

@@ -1,0 +1,137 @@
+// What a raw entry comes to: address lookups, base address, sums, and the entries that are skipped.
+use super::Range;
+use bytes::common::DebugAddrBase;
+use bytes::common::Encoding;
+use bytes::endianity::RunTimeEndian;
+use bytes::error::Error;
+use entries::Expression;
+use entries::RawLocListEntry;
+use entries::RawRngListEntry;
+use tables::addr::AddressAnswer;
+ghost use mathlib.Core.Path.{_≡_};
+ghost use Rattle.lists.specs.Convert.{told, bounded, offsets, convert, bounds, expressionOf, passedOf, tableAt};
+
+// A range, another base address, nothing, or a refused lookup.
+pub enum Converted {
+    Range(Range),
+    Base(u64),
+    Skip,
+    Refused(Error),
+}
+
+// A range is skipped when its begin is at or above the tombstone bound, or not below its end.
+fn checked(begin: u64, end: u64, size: u8) -> Converted
+    ensures { λ r. ⌜ told r ≡ bounded size begin end ⌝ }
+{
+    if bytes::address::min_tombstone(size) <= begin {
+        return Converted::Skip;
+    }
+    if end <= begin {
+        return Converted::Skip;
+    }
+    Converted::Range(Range { begin, end })
+}
+
+// An offset pair is skipped when the base is at or above the tombstone bound, even if the sum would wrap.
+fn offset_pair(begin: u64, end: u64, base_address: u64, size: u8) -> Converted
+    ensures { λ r. ⌜ told r ≡ offsets size «base_address» begin end ⌝ }
+{
+    if bytes::address::min_tombstone(size) <= base_address {
+        return Converted::Skip;
+    }
+    let b = bytes::address::wrapping_add_sized(base_address, begin, size);
+    let e = bytes::address::wrapping_add_sized(base_address, end, size);
+    checked(b, e, size)
+}
+
+// A refusal of a lookup passed on.
+fn passed(r: AddressAnswer) -> Converted
+    ensures { λ q. ⌜ q ≡ passedOf r ⌝ }
+{
+    match r {
+        AddressAnswer::Address(_) => Converted::Skip,
+        AddressAnswer::Refused(e) => Converted::Refused(e),
+    }
+}
+
+// A raw entry of a range list, or the bounds of a location: the refusals of the address table, the begin's first.
+pub fn convert_entry(
+    raw: RawRngListEntry,
+    debug_addr: &[u8],
+    debug_addr_base: DebugAddrBase,
+    base_address: u64,
+    encoding: Encoding,
+    endian: RunTimeEndian,
+) -> Converted
+    ensures { λ r. ⌜ told r ≡ convert (tableAt endian encoding «debug_addr_base» (now («debug_addr» .entry))) (encoding .«address_size») «base_address» raw ⌝ }
+{
+    let size = encoding.address_size;
+    match raw {
+        RawRngListEntry::AddressOrOffsetPair(b, e) => offset_pair(b, e, base_address, size),
+        RawRngListEntry::BaseAddress(a) => Converted::Base(a),
+        RawRngListEntry::BaseAddressx(i) => {
+            let r = tables::addr::get_address(debug_addr, size, debug_addr_base, i, endian);
+            let AddressAnswer::Address(a) = r else {
+                return passed(r);
+            };
+            Converted::Base(a)
+        }
+        RawRngListEntry::StartxEndx(i, j) => {
+            let r = tables::addr::get_address(debug_addr, size, debug_addr_base, i, endian);
+            let AddressAnswer::Address(b) = r else {
+                return passed(r);
+            };
+            let r1 = tables::addr::get_address(debug_addr, size, debug_addr_base, j, endian);
+            let AddressAnswer::Address(e) = r1 else {
+                return passed(r1);
+            };
+            checked(b, e, size)
+        }
+        RawRngListEntry::StartxLength(i, n) => {
+            let r = tables::addr::get_address(debug_addr, size, debug_addr_base, i, endian);
+            let AddressAnswer::Address(b) = r else {
+                return passed(r);
+            };
+            checked(b, bytes::address::wrapping_add_sized(b, n, size), size)
+        }
+        RawRngListEntry::OffsetPair(b, e) => offset_pair(b, e, base_address, size),
+        RawRngListEntry::StartEnd(b, e) => checked(b, e, size),
+        RawRngListEntry::StartLength(b, n) => {
+            checked(b, bytes::address::wrapping_add_sized(b, n, size), size)
+        }
+    }
+}
+
+// The bounds of a location as a range entry. A default location spans all 64-bit addresses.
+pub fn bounds_of(raw: RawLocListEntry) -> RawRngListEntry
+    ensures { λ r. ⌜ r ≡ bounds raw ⌝ }
+{
+    match raw {
+        RawLocListEntry::AddressOrOffsetPair(b, e, _) => RawRngListEntry::AddressOrOffsetPair(b, e),
+        RawLocListEntry::BaseAddress(a) => RawRngListEntry::BaseAddress(a),
+        RawLocListEntry::BaseAddressx(i) => RawRngListEntry::BaseAddressx(i),
+        RawLocListEntry::StartxEndx(i, j, _) => RawRngListEntry::StartxEndx(i, j),
+        RawLocListEntry::StartxLength(i, n, _) => RawRngListEntry::StartxLength(i, n),
+        RawLocListEntry::OffsetPair(b, e, _) => RawRngListEntry::OffsetPair(b, e),
+        RawLocListEntry::DefaultLocation(_) => RawRngListEntry::StartEnd(0, u64::MAX),
+        RawLocListEntry::StartEnd(b, e, _) => RawRngListEntry::StartEnd(b, e),
+        RawLocListEntry::StartLength(b, n, _) => RawRngListEntry::StartLength(b, n),
+    }
+}
+
+// The expression of a location; where there is none, the empty part at the section's start.
+pub fn expression_of(raw: RawLocListEntry) -> Expression
+    ensures { λ r. ⌜ r ≡ expressionOf raw ⌝ }
+{
+    match raw {
+        RawLocListEntry::AddressOrOffsetPair(_, _, x) => x,
+        RawLocListEntry::BaseAddress(_) => Expression { offset: 0, len: 0 },
+        RawLocListEntry::BaseAddressx(_) => Expression { offset: 0, len: 0 },
+        RawLocListEntry::StartxEndx(_, _, x) => x,
+        RawLocListEntry::StartxLength(_, _, x) => x,
+        RawLocListEntry::OffsetPair(_, _, x) => x,
+        RawLocListEntry::DefaultLocation(x) => x,
+        RawLocListEntry::StartEnd(_, _, x) => x,
+        RawLocListEntry::StartLength(_, _, x) => x,
+    }
+}

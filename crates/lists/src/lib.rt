@@ -1,0 +1,32 @@
+// Walking range lists and location lists: raw entries, conversion, the next range or location, lookup.
+pub mod convert;
+pub mod loclists;
+pub mod open;
+pub mod rnglists;
+
+use bytes::error::Error;
+use entries::Expression;
+
+// A place in the section, and the base address there.
+pub struct Walk {
+    pub at: usize,
+    pub base_address: u64,
+}
+
+// The addresses from begin on, end not among them.
+pub struct Range {
+    pub begin: u64,
+    pub end: u64,
+}
+
+// A range and the expression that says where the value lives there.
+pub struct LocationListEntry {
+    pub range: Range,
+    pub data: Expression,
+}
+
+// A list that was opened.
+pub enum Opened {
+    List(Walk),
+    Refused(Error),
+}

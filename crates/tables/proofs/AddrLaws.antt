@@ -1,0 +1,179 @@
+-- What the definitions of address tables say, case by case, and how large an address is.
+use mathlib.Core.Path.{_≡_, refl, sym, ap, _∙_}
+use mathlib.Core.List.{List}
+use Prim.Native.Nat.{ℕ, _+_, _-_, _*_, _%_, _^_, _≤_, _<_}
+use native.Mathlib.Nat.{mod-zero, mod-lt}
+use native.Mathlib.Omega.{arith}
+use lib.Dec.{leb, eqb}
+use lib.ListN.{length, getD, take, drop, length-drop}
+use lib.Seq.{length-take-le}
+use borrow.Author.Tests.{leb-true, le-leb, lt-leb, eq-eqb, ne-eqb}
+use Rattle.bytes.specs.Read.{Read, got, refused, gives, andThen, result}
+use Rattle.bytes.specs.Error.{refusal, refusing, told, toldPlace}
+use Rattle.bytes.specs.Common.{initialLengthSize}
+use Rattle.bytes.specs.Reader.{skip, address, partOf}
+use Rattle.bytes.specs.declared.common.DebugAddrBase.{DebugAddrBase}
+use Rattle.bytes.specs.declared.common.DebugAddrIndex.{DebugAddrIndex}
+use Rattle.bytes.specs.declared.endianity.RunTimeEndian.{RunTimeEndian}
+use Rattle.bytes.specs.declared.error.Error.{Error}
+use Rattle.bytes.specs.declared.Num.{Num}
+use Rattle.bytes.specs.declared.Num.the-variants as num
+use Rattle.bytes.specs.declared.Place.{Place}
+use Rattle.bytes.specs.declared.Place.the-variants as place
+use Rattle.bytes.proofs.ReaderLaws.{at-then, no-place-then}
+use Rattle.bytes.proofs.ReaderTook.{address-took, address-lt}
+use Rattle.bytes.proofs.Took.{pick-ind}
+use Rattle.tables.specs.Header.{toldHead, head}
+use Rattle.tables.specs.Row.{rowAt}
+use Rattle.tables.specs.Next.{yields, ends, stopped}
+use Rattle.tables.specs.Addr.{addressAt, padding, tableOf, addrHeader, toldHeader, headersAt, onHeader, nextHeader, movedOn, onEntry, nextEntry}
+use Rattle.tables.specs.declared.header.Head.{Head}
+use Rattle.tables.specs.declared.header.HeadAnswer.{HeadAnswer}
+use Rattle.tables.specs.declared.header.HeadAnswer.the-variants as answer
+use Rattle.tables.specs.declared.addr.AddrHeader.{AddrHeader}
+use Rattle.tables.specs.declared.addr.AddrHeaderAnswer.{AddrHeaderAnswer}
+use Rattle.tables.specs.declared.addr.AddrHeaderAnswer.the-variants as header
+use Rattle.tables.specs.declared.addr.AddrHeaderIter.{AddrHeaderIter}
+use Rattle.tables.specs.declared.addr.AddrEntryIter.{AddrEntryIter}
+use Rattle.tables.proofs.HeaderLaws.{then-ind, skip-reached, got-is, head-is, head-fits, head-then, no-head-then}
+
+-- the address of an index, by the place of its row
+module _ (o : RunTimeEndian) (size : ℕ) (base : DebugAddrBase) (index : DebugAddrIndex) (s : List ℕ) {r : Place}
+    (p : toldPlace r ≡ rowAt (base .0) (index .0) size s) where
+  pub no-entry : {e : Error} → r ≡ place.Refused e → addressAt o size base index s ≡ refusing e
+  unfolding addressAt
+  no-entry q = ap (result gives) (no-place-then _ p q)
+
+  module _ {c : ℕ} (q : r ≡ place.At c) where
+    by-address : addressAt o size base index s ≡ result gives (address o size s c)
+    unfolding addressAt
+    by-address = ap (result gives) (at-then _ p q)
+
+    module _ {t : Num} (k : told t ≡ address o size s c) where
+      pub no-address : {e : Error} → t ≡ num.Refused e → addressAt o size base index s ≡ refusing e
+      no-address w = by-address ∙ rw (← k, w)
+
+      pub address-found : {a d : ℕ} → t ≡ num.Got a d → addressAt o size base index s ≡ gives a
+      address-found w = by-address ∙ rw (← k, w)
+
+-- an address of a table is below 2^(8 * size)
+abbrev Below : ℕ → Read ℕ → Type 0
+Below n (got a c) = a < n
+Below n (refused k vs) = Unit
+
+given-below : (n : ℕ) (r : Read ℕ) {a : ℕ} → result gives r ≡ gives a → Below n r → a < n
+given-below n (got b c) {a} e l = let z : b ≡ a = cc in omega arith
+given-below n (refused k vs) e l = let z : _≡_ {A = ℕ} 0 1 = cc in absurd (omega arith)
+
+address-below : (o : RunTimeEndian) (size : ℕ) (s : List ℕ) (at : ℕ) → ((i : ℕ) → getD s i 0 < 256) → Below (2 ^ (8 * size)) (address o size s at)
+address-below o size s at b = cases (address o size s at) refl
+  where
+    cases : (r : Read ℕ) → address o size s at ≡ r → Below (2 ^ (8 * size)) r
+    cases (got a c) e = address-lt o size s at b e
+    cases (refused k vs) e = tt
+
+pub address-at-lt : (o : RunTimeEndian) (size : ℕ) (base : DebugAddrBase) (index : DebugAddrIndex) (s : List ℕ) {a : ℕ}
+    → ((i : ℕ) → getD s i 0 < 256) → addressAt o size base index s ≡ gives a → a < 2 ^ (8 * size)
+unfolding addressAt
+address-at-lt o size base index s b e =
+    given-below (2 ^ (8 * size)) (andThen (rowAt (base .0) (index .0) size s) (λ _ c. address o size s c)) e
+    (then-ind (Below (2 ^ (8 * size))) (rowAt (base .0) (index .0) size s) _ (λ k vs. tt) (λ v c z. address-below o size s c b))
+
+-- the bytes that bring a header to a multiple of a size
+pub no-padding : (n size : ℕ) → size ≡ 0 → 0 ≡ padding n size
+no-padding n size z = rw (z, mod-zero) (pick-ind (λ (k : ℕ). 0 ≡ k) (eqb n 0) (λ h. refl) (λ h. omega arith))
+
+pub full-padding : (n size : ℕ) → n % size ≡ 0 → 0 ≡ padding n size
+full-padding n size z = simp (eq-eqb (n % size) 0 z)
+
+pub some-padding : (n size : ℕ) → (n % size ≡ 0 → ⊥) → size - n % size ≡ padding n size
+some-padding n size z = simp (ne-eqb (n % size) 0 z)
+
+pub over-le : (n size : ℕ) → (size ≡ 0 → ⊥) → n % size ≤ size
+over-le n size z = omega (arith, mod-lt n {m = size} (omega arith))
+
+-- a table's header, by its fields
+module _ (o : RunTimeEndian) (s : List ℕ) (at : ℕ) {r : HeadAnswer} (p : toldHead r ≡ head o s at) where
+  pub no-head : {e : Error} → r ≡ answer.Refused e → addrHeader o s at ≡ refusal e
+  unfolding addrHeader
+  no-head q = no-head-then _ p q
+
+  module _ {h : Head} {c : ℕ} (q : r ≡ answer.Got h c) where
+    pub unit-of : h .end ≡ length (take (h .end) s)
+    unit-of = sym (length-take-le (h .end) s (head-fits o s at (head-is p q) .inside))
+
+    module _ {n m : ℕ} (a : n ≡ initialLengthSize (h .format)) (b : m ≡ padding (n + 4) (h .«address_size»)) where
+      by-padding : addrHeader o s at ≡ andThen (skip m (take (h .end) s) c) (λ _ d. got (tableOf at h d) (h .end))
+      unfolding addrHeader
+      by-padding = head-then _ p q ∙ rw (b, a)
+
+      module _ {t : Place} (k : toldPlace t ≡ skip m (take (h .end) s) c) where
+        pub padding-past : {e : Error} → t ≡ place.Refused e → addrHeader o s at ≡ refusal e
+        padding-past w = by-padding ∙ no-place-then _ k w
+
+        module _ {d : ℕ} (w : t ≡ place.At d) where
+          pub table-inside : d ≤ h .end
+          table-inside =
+              let e : skip m (take (h .end) s) c ≡ got tt d = sym k ∙ rw w in
+              omega (arith, unit-of, skip-reached m (take (h .end) s) c e .1)
+
+          pub table-got : addrHeader o s at ≡ got (tableOf at h d) (h .end)
+          table-got = by-padding ∙ at-then _ k w
+
+-- the walk over headers
+module _ (o : RunTimeEndian) (s : List ℕ) (w : AddrHeaderIter) where
+  pub headers-end : length s ≤ w .at → nextHeader o s w ≡ ends w
+  unfolding nextHeader
+  headers-end h = simp (le-leb (length s) (w .at) h)
+
+  module _ (l : w .at < length s) where
+    by-header : nextHeader o s w ≡ onHeader (length s) (addrHeader o s (w .at))
+    unfolding nextHeader
+    by-header = simp (lt-leb (length s) (w .at) l)
+
+    module _ {r : AddrHeaderAnswer} (p : toldHeader r ≡ addrHeader o s (w .at)) where
+      pub next-header : {h : AddrHeader} {c : ℕ} → r ≡ header.Header h c → nextHeader o s w ≡ yields h (headersAt c)
+      next-header q = by-header ∙ rw (← p, q)
+
+      pub header-refused : {e : Error} → r ≡ header.Refused e → nextHeader o s w ≡ stopped e (headersAt (length s))
+      header-refused q = by-header ∙ rw (← p, q)
+
+-- a part that is not empty lies in the section
+pub part-fits : (s : List ℕ) (offset len : ℕ) → (length (partOf s offset len) ≡ 0 → ⊥)
+    → (offset + len ≤ length s) × (length (partOf s offset len) ≡ len)
+unfolding partOf
+part-fits s offset len =
+    pick-ind (λ (l : List ℕ). (length l ≡ 0 → ⊥) → (offset + len ≤ length s) × (length l ≡ len)) (leb (offset + len) (length s))
+    (λ h z. let i = leb-true _ _ h in (i, length-take-le len (drop offset s) (rw (length-drop offset s) (omega arith))))
+    (λ h z. absurd (z refl))
+
+-- the walk at the end of its part, as the code makes it
+abbrev pub emptied : AddrEntryIter → AddrEntryIter
+emptied w = record { entries = record { offset = w .entries .offset + w .entries .len; len = 0 }; encoding = w .encoding }
+
+-- the walk over the addresses of a table
+module _ (o : RunTimeEndian) (s : List ℕ) (w : AddrEntryIter) {part : List ℕ} (k : part ≡ partOf s (w .entries .offset) (w .entries .len)) where
+  pub entries-end : length part ≡ 0 → nextEntry o s w ≡ ends w
+  unfolding nextEntry
+  entries-end z = rw (← k) (let l : length part ≤ 0 = omega arith in simp (le-leb (length part) 0 l))
+
+  module _ (z : length part ≡ 0 → ⊥) where
+    pub entries-fit : (w .entries .offset + w .entries .len ≤ length s) × (length part ≡ w .entries .len)
+    entries-fit = let f = part-fits s (w .entries .offset) (w .entries .len) (λ e. z (ap length k ∙ e)) in (f .0, ap length k ∙ f .1)
+
+    by-entry : nextEntry o s w ≡ onEntry w (address o (w .encoding .«address_size») part 0)
+    unfolding nextEntry
+    by-entry = rw (← k) (let l : 0 < length part = omega arith in simp (lt-leb (length part) 0 l))
+
+    module _ {r : Num} (p : told r ≡ address o (w .encoding .«address_size») part 0) where
+      pub next-entry : {a c : ℕ} → r ≡ num.Got a c → nextEntry o s w ≡ yields a (movedOn w c)
+      next-entry q = by-entry ∙ rw (← p, q)
+
+      pub entry-inside : {a c : ℕ} → r ≡ num.Got a c → c ≤ w .entries .len
+      entry-inside {a} {c} q =
+          let e = got-is p q in
+          let i : c ≤ length part = (rw e at (address-took part part (w .encoding .«address_size») 0 o)) .1 in
+          omega (arith, entries-fit .1)
+
+      pub entry-refused : {e : Error} → r ≡ num.Refused e → nextEntry o s w ≡ stopped e (emptied w)
+      entry-refused q = let z : w .entries .len - w .entries .len ≡ 0 = omega arith in by-entry ∙ rw (← p, q, z)

@@ -1,0 +1,245 @@
+-- What the definitions of headers say, case by case, and what holds of the fields that were read.
+use mathlib.Core.Path.{_≡_, refl, sym, ap, _∙_}
+use mathlib.Core.Bool.{true}
+use mathlib.Core.List.{List}
+use Prim.Native.Nat.{ℕ, _+_, _≤_, _<_}
+use native.Mathlib.Omega.{arith}
+use lib.Dec.{leb, eqb}
+use lib.ListN.{length, take}
+use lib.Seq.{length-take-le}
+use borrow.Author.Tests.{leb-true, le-leb, lt-leb, eq-eqb, ne-eqb}
+use Rattle.bytes.specs.Read.{Read, got, refused, gives, andThen, result, pick}
+use Rattle.bytes.specs.Error.{refusal, refusing, told, toldLength}
+use Rattle.bytes.specs.Reader.{skip, uint, isSize, addressSize, initialLength, truncate}
+use Rattle.bytes.specs.declared.common.Encoding.{Encoding}
+use Rattle.bytes.specs.declared.common.DwarfFileType.{DwarfFileType}
+use Rattle.bytes.specs.declared.common.DwarfFileType.the-variants.{Main, Dwo}
+use Rattle.bytes.specs.declared.endianity.RunTimeEndian.{RunTimeEndian}
+use Rattle.bytes.specs.declared.endianity.RunTimeEndian.the-variants.{Little}
+use Rattle.bytes.specs.declared.error.Error.{Error}
+use Rattle.bytes.specs.declared.error.Error.the-variants.{UnknownVersion, UnsupportedSegmentSize}
+use Rattle.bytes.specs.declared.Num.{Num}
+use Rattle.bytes.specs.declared.Num.the-variants as num
+use Rattle.bytes.specs.declared.UnitLength.{UnitLength}
+use Rattle.bytes.specs.declared.InitialLength.{InitialLength}
+use Rattle.bytes.specs.declared.InitialLength.the-variants as initial
+use Rattle.bytes.proofs.ReaderLaws.{got-then, refused-then, size-range}
+use Rattle.bytes.proofs.ReaderTook.{uint-took}
+use Rattle.bytes.proofs.Took.{pick-ind}
+use Rattle.tables.specs.Header.{toldHead, passedHead, headOf, fields, head}
+use Rattle.tables.specs.Lists.{parsed, headerOf, restOf, listsHeader, headerSize, defaultBase}
+use Rattle.tables.specs.declared.header.Head.{Head}
+use Rattle.tables.specs.declared.header.HeadAnswer.{HeadAnswer}
+use Rattle.tables.specs.declared.header.HeadAnswer.the-variants as answer
+
+-- what holds of a refusal, and of all that may follow a value that was read, holds of the whole
+pub then-ind : {A B : Type 0} (P : Read B → Type 0) (r : Read A) (f : A → ℕ → Read B) → ((n : ℕ) (vs : List ℕ) → P (refused n vs))
+    → ((v : A) (c : ℕ) → r ≡ got v c → P (f v c)) → P (andThen r f)
+then-ind P (got v c) f n g = g v c refl
+then-ind P (refused k vs) f n g = n k vs
+
+-- what an answer told, taken apart
+pub got-is : {r : Num} {d : Read ℕ} {v c : ℕ} → told r ≡ d → r ≡ num.Got v c → d ≡ got v c
+got-is p q = sym p ∙ rw q
+
+pub head-is : {r : HeadAnswer} {d : Read Head} {h : Head} {c : ℕ} → toldHead r ≡ d → r ≡ answer.Got h c → d ≡ got h c
+head-is p q = sym p ∙ rw q
+
+-- a place that was reached by n bytes
+abbrev Reached : ℕ → List ℕ → ℕ → Read Unit → Type 0
+Reached n s at (got v c) = (c ≡ at + n) × (c ≤ length s)
+Reached n s at (refused k vs) = Unit
+
+-- a section that was cut after n bytes
+abbrev Cut : ℕ → List ℕ → ℕ → Read ℕ → Type 0
+Cut n s at (got e d) = (e ≡ at + n) × (e ≤ length s) × (d ≡ at)
+Cut n s at (refused k vs) = Unit
+
+module _ (n : ℕ) (s : List ℕ) (at : ℕ) where
+  reached : Reached n s at (skip n s at)
+  unfolding skip
+  reached = pick-ind (Reached n s at) (leb (at + n) (length s)) (λ h. (refl, leb-true _ _ h)) (λ h. tt)
+
+  pub skip-reached : {v : Unit} {c : ℕ} → skip n s at ≡ got v c → (c ≡ at + n) × (c ≤ length s)
+  skip-reached e = rw e at reached
+
+  cut : Cut n s at (truncate n s at)
+  unfolding truncate
+  cut = then-ind (Cut n s at) (skip n s at) _ (λ k vs. tt) (λ v c e. (skip-reached e .0, skip-reached e .1, refl))
+
+  pub truncate-cut : {e d : ℕ} → truncate n s at ≡ got e d → (e ≡ at + n) × (e ≤ length s) × (d ≡ at)
+  truncate-cut q = rw q at cut
+
+  pub uint-inside : (o : RunTimeEndian) {v c : ℕ} → uint o n s at ≡ got v c → c ≤ length s
+  uint-inside o e = (rw e at (uint-took s s n at o)) .1
+
+abbrev Sized : Read ℕ → Type 0
+Sized (got n c) = isSize n ≡ true
+Sized (refused k vs) = Unit
+
+module _ (s : List ℕ) (at : ℕ) where
+  sized : Sized (addressSize s at)
+  unfolding addressSize
+  sized = then-ind Sized (uint Little 1 s at) _ (λ k vs. tt) (λ v c e. pick-ind Sized (isSize v) (λ h. h) (λ h. tt))
+
+  pub size-is : {n c : ℕ} → addressSize s at ≡ got n c → isSize n ≡ true
+  size-is e = rw e at sized
+
+  -- a size that was read is a byte
+  pub size-small : {r : Num} {n c : ℕ} → told r ≡ addressSize s at → r ≡ num.Got n c → n ≤ 8
+  size-small {n = n} p q = size-range n (size-is (got-is p q)) .1
+
+-- fields that were read in the bytes up to an end: it is the end that they tell, and they lie before it
+abbrev Within : ℕ → Read Head → Type 0
+Within end (got h c) = (h .end ≡ end) × (c ≤ end) × (isSize (h .«address_size») ≡ true)
+Within end (refused k vs) = Unit
+
+-- fields that were read in a section
+pub record Fits (s : List ℕ) (h : Head) (c : ℕ) : Type 0 where
+  pub inside : h .end ≤ length s
+  pub before : c ≤ h .end
+  pub size : isSize (h .«address_size») ≡ true
+
+abbrev Inside : List ℕ → Read Head → Type 0
+Inside s (got h c) = Fits s h c
+Inside s (refused k vs) = Unit
+
+within-inside : (s : List ℕ) (end : ℕ) (r : Read Head) → end ≤ length s → Within end r → Inside s r
+within-inside s end (got h c) l w = record { inside = omega arith; before = omega arith; size = w .2 }
+within-inside s end (refused k vs) l w = tt
+
+fields-within : (o : RunTimeEndian) (unit : List ℕ) (u : UnitLength) (at : ℕ) → Within (length unit) (fields o unit u at)
+unfolding fields
+fields-within o unit u at =
+    then-ind (Within (length unit)) (uint o 2 unit at) _ (λ k vs. tt) (λ v c e.
+    pick-ind (Within (length unit)) (eqb v 5) (λ h.
+    then-ind (Within (length unit)) (addressSize unit c) _ (λ k vs. tt) (λ size d z.
+    then-ind (Within (length unit)) (uint Little 1 unit d) _ (λ k vs. tt) (λ g b y.
+    pick-ind (Within (length unit)) (eqb g 0) (λ x. (refl, uint-inside 1 unit d Little y, size-is unit c z)) (λ x. tt)))) (λ h. tt))
+
+head-inside : (o : RunTimeEndian) (s : List ℕ) (at : ℕ) → Inside s (head o s at)
+unfolding head
+head-inside o s at =
+    then-ind (Inside s) (initialLength o s at) _ (λ k vs. tt) (λ u c e.
+    then-ind (Inside s) (truncate (u .length) s c) _ (λ k vs. tt) (λ end d z.
+    let l = truncate-cut (u .length) s c z .1 in
+    within-inside s end (fields o (take end s) u d) l (rw (length-take-le end s l) at (fields-within o (take end s) u d))))
+
+pub head-fits : (o : RunTimeEndian) (s : List ℕ) (at : ℕ) {h : Head} {c : ℕ} → head o s at ≡ got h c → Fits s h c
+head-fits o s at e = rw e at (head-inside o s at)
+
+-- fields taken apart: they go on, or their refusal is the answer
+module _ {B : Type 0} {r : HeadAnswer} {d : Read Head} (f : Head → ℕ → Read B) (p : toldHead r ≡ d) where
+  pub head-then : {h : Head} {c : ℕ} → r ≡ answer.Got h c → andThen d f ≡ f h c
+  head-then q = rw (← p, q)
+
+  pub no-head-then : {e : Error} → r ≡ answer.Refused e → andThen d f ≡ refusal e
+  no-head-then q = rw (← p, q)
+
+module _ {B : Type 0} {r : InitialLength} {d : Read UnitLength} (f : UnitLength → ℕ → Read B) (p : toldLength r ≡ d) where
+  unit-then : {u : UnitLength} {c : ℕ} → r ≡ initial.Got u c → andThen d f ≡ f u c
+  unit-then q = rw (← p, q)
+
+  no-unit-then : {e : Error} → r ≡ initial.Refused e → andThen d f ≡ refusal e
+  no-unit-then q = rw (← p, q)
+
+-- the fields after the length, one after the other
+handed : {a : HeadAnswer} {r : Num} {e : Error} → a ≡ passedHead r → r ≡ num.Refused e → refusal e ≡ toldHead a
+handed k q = rw (k, q)
+
+abbrev afterSize : List ℕ → UnitLength → ℕ → ℕ → Read Head
+afterSize unit u size d =
+    andThen (uint Little 1 unit d) (λ segment e.
+    pick (eqb segment 0) (got (headOf u (length unit) size) e) (refusal (UnsupportedSegmentSize segment)))
+
+module _ (o : RunTimeEndian) (unit : List ℕ) (u : UnitLength) (at : ℕ) {r : Num} (p : told r ≡ uint o 2 unit at) where
+  pub no-version : {a : HeadAnswer} {e : Error} → a ≡ passedHead r → r ≡ num.Refused e → fields o unit u at ≡ toldHead a
+  unfolding fields
+  no-version k q = refused-then _ p q ∙ handed k q
+
+  module _ {v c : ℕ} (q : r ≡ num.Got v c) where
+    pub other-version : (v ≡ 5 → ⊥) → fields o unit u at ≡ refusal (UnknownVersion v)
+    unfolding fields
+    other-version h = got-then _ p q ∙ simp (ne-eqb v 5 h)
+
+    module _ (h : v ≡ 5) where
+      from-size : fields o unit u at ≡ andThen (addressSize unit c) (afterSize unit u)
+      unfolding fields
+      from-size = got-then _ p q ∙ simp (eq-eqb v 5 h)
+
+      module _ {r1 : Num} (p1 : told r1 ≡ addressSize unit c) where
+        pub no-size-field : {a : HeadAnswer} {e : Error} → a ≡ passedHead r1 → r1 ≡ num.Refused e → fields o unit u at ≡ toldHead a
+        no-size-field k w = from-size ∙ refused-then _ p1 w ∙ handed k w
+
+        module _ {size d : ℕ} (q1 : r1 ≡ num.Got size d) {r2 : Num} (p2 : told r2 ≡ uint Little 1 unit d) where
+          pub no-segment : {a : HeadAnswer} {e : Error} → a ≡ passedHead r2 → r2 ≡ num.Refused e → fields o unit u at ≡ toldHead a
+          no-segment k w = from-size ∙ got-then _ p1 q1 ∙ refused-then _ p2 w ∙ handed k w
+
+          module _ {g e : ℕ} (q2 : r2 ≡ num.Got g e) where
+            pub other-segment : (g ≡ 0 → ⊥) → fields o unit u at ≡ refusal (UnsupportedSegmentSize g)
+            other-segment z = from-size ∙ got-then _ p1 q1 ∙ got-then _ p2 q2 ∙ simp (ne-eqb g 0 z)
+
+            pub fields-got : g ≡ 0 → fields o unit u at ≡ got (headOf u (length unit) size) e
+            fields-got z = from-size ∙ got-then _ p1 q1 ∙ got-then _ p2 q2 ∙ simp (eq-eqb g 0 z)
+
+-- all fields, by the length
+module _ (o : RunTimeEndian) (s : List ℕ) (at : ℕ) {r : InitialLength} (p : toldLength r ≡ initialLength o s at) where
+  pub no-unit : {e : Error} → r ≡ initial.Refused e → head o s at ≡ refusal e
+  unfolding head
+  no-unit q = no-unit-then _ p q
+
+  module _ {u : UnitLength} {c : ℕ} (q : r ≡ initial.Got u c) {t : Num} (k : told t ≡ truncate (u .length) s c) where
+    pub unit-past : {e : Error} → t ≡ num.Refused e → head o s at ≡ refusal e
+    unfolding head
+    unit-past w = unit-then _ p q ∙ refused-then _ k w
+
+    module _ {end d : ℕ} (w : t ≡ num.Got end d) where
+      cut-at : (end ≡ c + u .length) × (end ≤ length s) × (d ≡ c)
+      cut-at = truncate-cut (u .length) s c (got-is k w)
+
+      pub unit-length : end ≡ length (take end s)
+      unit-length = sym (length-take-le end s (cut-at .1))
+
+      pub unit-fields : head o s at ≡ fields o (take end s) u c
+      unfolding head
+      unit-fields = unit-then _ p q ∙ got-then _ k w ∙ ap (fields o (take end s) u) (cut-at .2)
+
+-- the header of a set of lists, by its fields
+module _ (o : RunTimeEndian) (s : List ℕ) (at : ℕ) {r : HeadAnswer} (p : toldHead r ≡ head o s at) where
+  pub no-fields : {e : Error} → r ≡ answer.Refused e → listsHeader o s at ≡ refusing e
+  unfolding listsHeader
+  no-fields q = ap (result gives) (no-head-then _ p q)
+
+  module _ {h : Head} {c : ℕ} (q : r ≡ answer.Got h c) where
+    pub fields-fit : Fits s h c
+    fields-fit = head-fits o s at (head-is p q)
+
+    pub fields-length : h .end ≡ length (take (h .end) s)
+    fields-length = sym (length-take-le (h .end) s (fields-fit .inside))
+
+    module _ {t : Num} (k : told t ≡ uint o 4 (take (h .end) s) c) where
+      pub no-count : {e : Error} → t ≡ num.Refused e → listsHeader o s at ≡ refusing e
+      unfolding listsHeader
+      no-count w = ap (result gives) (head-then _ p q ∙ refused-then _ k w)
+
+      module _ {n d : ℕ} (w : t ≡ num.Got n d) where
+        pub count-inside : d ≤ h .end
+        count-inside = omega (arith, fields-length, uint-inside 4 (take (h .end) s) c o (got-is k w))
+
+        pub lists-got : listsHeader o s at ≡ gives (parsed (headerOf h n) (restOf h d))
+        unfolding listsHeader
+        lists-got = ap (result gives) (head-then _ p q ∙ got-then _ k w)
+
+-- where an offset table begins
+module _ (p : Encoding) (f : DwarfFileType) where
+  pub early-base : p .version < 5 → 0 ≡ defaultBase p f
+  unfolding defaultBase
+  early-base h = simp (lt-leb 5 (p .version) h)
+
+  pub main-base : 5 ≤ p .version → f ≡ Main → 0 ≡ defaultBase p f
+  unfolding defaultBase
+  main-base h e = rw e (simp (le-leb 5 (p .version) h))
+
+  pub dwo-base : 5 ≤ p .version → f ≡ Dwo → headerSize p ≡ defaultBase p f
+  unfolding defaultBase
+  dwo-base h e = rw e (simp (le-leb 5 (p .version) h))

@@ -1,0 +1,5 @@
+pub mod Header
+pub mod Lists
+pub mod Row
+pub mod Next
+pub mod Addr
