@@ -2,5 +2,6 @@ pub mod WalkLaws
 pub mod Past
 pub mod ConvertLaws
 pub mod Theorems
+pub mod CallLaws
 pub mod Bounds
 pub mod Local

@@ -36,11 +36,11 @@ fn checked(begin: u64, end: u64, size: u8) -> Converted
 fn offset_pair(begin: u64, end: u64, base_address: u64, size: u8) -> Converted
     ensures { λ r. ⌜ told r ≡ offsets size «base_address» begin end ⌝ }
 {
+    let b = bytes::address::wrapping_add_sized(base_address, begin, size);
+    let e = bytes::address::wrapping_add_sized(base_address, end, size);
     if bytes::address::min_tombstone(size) <= base_address {
         return Converted::Skip;
     }
-    let b = bytes::address::wrapping_add_sized(base_address, begin, size);
-    let e = bytes::address::wrapping_add_sized(base_address, end, size);
     checked(b, e, size)
 }
 

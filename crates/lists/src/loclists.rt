@@ -183,6 +183,10 @@ pub fn next(
                     });
                 }
                 LocStep::Entry(raw, c) => {
+                    let after = Walk {
+                        at: c,
+                        base_address,
+                    };
                     let bounds = super::convert::bounds_of(raw);
                     let data = super::convert::expression_of(raw);
                     match super::convert::convert_entry(
@@ -194,22 +198,10 @@ pub fn next(
                         endian,
                     ) {
                         Converted::Range(range) => {
-                            return LocAnswer::Location(
-                                LocationListEntry { range, data },
-                                Walk {
-                                    at: c,
-                                    base_address,
-                                },
-                            );
+                            return LocAnswer::Location(LocationListEntry { range, data }, after);
                         }
                         Converted::Refused(e) => {
-                            return LocAnswer::Refused(
-                                e,
-                                Walk {
-                                    at: c,
-                                    base_address,
-                                },
-                            );
+                            return LocAnswer::Refused(e, after);
                         }
                         Converted::Base(b) => {
                             base_address = b;

@@ -174,6 +174,10 @@ pub fn next(
                     });
                 }
                 RngStep::Entry(raw, c) => {
+                    let after = Walk {
+                        at: c,
+                        base_address,
+                    };
                     match super::convert::convert_entry(
                         raw,
                         debug_addr,
@@ -183,22 +187,10 @@ pub fn next(
                         endian,
                     ) {
                         Converted::Range(r) => {
-                            return RngAnswer::Range(
-                                r,
-                                Walk {
-                                    at: c,
-                                    base_address,
-                                },
-                            );
+                            return RngAnswer::Range(r, after);
                         }
                         Converted::Refused(e) => {
-                            return RngAnswer::Refused(
-                                e,
-                                Walk {
-                                    at: c,
-                                    base_address,
-                                },
-                            );
+                            return RngAnswer::Refused(e, after);
                         }
                         Converted::Base(b) => {
                             base_address = b;
