@@ -1,0 +1,39 @@
+// Document 01's examples through the public functions of bytes, tables and entries. The file stdout has the answers, by
+// the paper.
+mod examples;
+mod nothing;
+mod rows;
+mod show;
+
+fn main() {
+    refusals();
+    good();
+    empty();
+}
+
+fn refusals() {
+    rows::missing();
+    rows::kinds();
+    rows::headers();
+    rows::lengths();
+}
+
+fn good() {
+    examples::table();
+    examples::offsets();
+    examples::numbers();
+    examples::orders();
+    examples::addresses();
+    examples::entries();
+    examples::split();
+    examples::pairs();
+}
+
+fn empty() {
+    nothing::skips();
+    nothing::reads();
+    nothing::numbers();
+    nothing::tables();
+    nothing::rows();
+    nothing::lists();
+}

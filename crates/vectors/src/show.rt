@@ -1,0 +1,273 @@
+// A line for each answer.
+use bytes::InitialLength;
+use bytes::Num;
+use bytes::Place;
+use bytes::Split;
+use bytes::error::Error;
+use entries::Expression;
+use entries::LocStep;
+use entries::RawLocListEntry;
+use entries::RawRngListEntry;
+use entries::RngStep;
+use libc::STDOUT_FILENO;
+use tables::addr::AddrHeaderAnswer;
+use tables::addr::AddressAnswer;
+use tables::addr::NextEntry;
+use tables::addr::NextHeader;
+use tables::lists::ListsAnswer;
+use tables::loclists::LocationOffsetAnswer;
+use tables::rnglists::RangeOffsetAnswer;
+ghost use mathlib.Core.Path.{_≡_};
+ghost use Rattle.bytes.specs.Error.{number};
+
+pub fn say(text: &[u8]) {
+    io::write_all(STDOUT_FILENO, text);
+}
+
+pub fn put(n: u64) {
+    say(b" ");
+    io::print_decimal(STDOUT_FILENO, n);
+}
+
+pub fn end_line() {
+    say(b"\n");
+}
+
+fn field(name: &[u8], n: u64) {
+    say(name);
+    put(n);
+}
+
+// The paper's number of a refusal.
+fn number_of(e: Error) -> u64
+    ensures { λ r. ⌜ r ≡ number e ⌝ }
+{
+    match e {
+        Error::UnexpectedEof => 1,
+        Error::BadUnsignedLeb128 => 2,
+        Error::UnknownRangeListsEntry(_) => 3,
+        Error::UnknownLocListsEntry(_) => 4,
+        Error::UnknownVersion(_) => 5,
+        Error::UnsupportedAddressSize(_) => 6,
+        Error::UnsupportedSegmentSize(_) => 7,
+        Error::UnknownReservedLength(_) => 8,
+        Error::UnsupportedOffset => 9,
+        Error::TooManyRanges => 10,
+        Error::NoSpace => 11,
+        Error::BadSheet => 12,
+    }
+}
+
+pub fn refused(e: Error) {
+    field(b" refused", number_of(e));
+    match e {
+        Error::UnknownRangeListsEntry(v) => put(v),
+        Error::UnknownLocListsEntry(v) => put(v),
+        Error::UnknownVersion(v) => put(v),
+        Error::UnsupportedAddressSize(v) => put(v),
+        Error::UnsupportedSegmentSize(v) => put(v),
+        Error::UnknownReservedLength(v) => put(v),
+        _ => {}
+    }
+}
+
+fn next(c: usize) {
+    field(b" next", c as u64);
+}
+
+pub fn num(label: &[u8], r: Num) {
+    say(label);
+    match r {
+        Num::Got(v, c) => {
+            put(v);
+            next(c);
+        }
+        Num::Refused(e) => refused(e),
+    }
+    end_line();
+}
+
+pub fn value(label: &[u8], n: u64) {
+    say(label);
+    put(n);
+    end_line();
+}
+
+pub fn place(label: &[u8], r: Place) {
+    say(label);
+    match r {
+        Place::At(c) => put(c as u64),
+        Place::Refused(e) => refused(e),
+    }
+    end_line();
+}
+
+pub fn split(label: &[u8], r: Split) {
+    say(label);
+    match r {
+        Split::Got(x, c) => {
+            put(x.offset as u64);
+            put(x.len as u64);
+            next(c);
+        }
+        Split::Refused(e) => refused(e),
+    }
+    end_line();
+}
+
+pub fn initial_length(label: &[u8], r: InitialLength) {
+    say(label);
+    match r {
+        InitialLength::Got(u, c) => {
+            put(u.length);
+            next(c);
+        }
+        InitialLength::Refused(e) => refused(e),
+    }
+    end_line();
+}
+
+pub fn lists(label: &[u8], r: ListsAnswer) {
+    say(label);
+    match r {
+        ListsAnswer::Header(h, rest) => {
+            let encoding = h.encoding;
+            field(b" size", encoding.address_size as u64);
+            field(b" count", h.offset_entry_count);
+            field(b" rest", rest.offset as u64);
+            put(rest.len as u64);
+        }
+        ListsAnswer::Refused(e) => refused(e),
+    }
+    end_line();
+}
+
+pub fn address(label: &[u8], r: AddressAnswer) {
+    say(label);
+    match r {
+        AddressAnswer::Address(a) => put(a),
+        AddressAnswer::Refused(e) => refused(e),
+    }
+    end_line();
+}
+
+pub fn range_offset(label: &[u8], r: RangeOffsetAnswer) {
+    say(label);
+    match r {
+        RangeOffsetAnswer::Offset(x) => put(x.0),
+        RangeOffsetAnswer::Refused(e) => refused(e),
+    }
+    end_line();
+}
+
+pub fn location_offset(label: &[u8], r: LocationOffsetAnswer) {
+    say(label);
+    match r {
+        LocationOffsetAnswer::Offset(x) => put(x.0),
+        LocationOffsetAnswer::Refused(e) => refused(e),
+    }
+    end_line();
+}
+
+pub fn table_header(label: &[u8], r: AddrHeaderAnswer) {
+    say(label);
+    match r {
+        AddrHeaderAnswer::Header(h, c) => {
+            let encoding = h.encoding;
+            let entries = h.entries;
+            field(b" length", h.length);
+            field(b" size", encoding.address_size as u64);
+            field(b" entries", entries.offset as u64);
+            put(entries.len as u64);
+            next(c);
+        }
+        AddrHeaderAnswer::Refused(e) => refused(e),
+    }
+    end_line();
+}
+
+pub fn next_header(label: &[u8], r: NextHeader) {
+    say(label);
+    match r {
+        NextHeader::Header(_, w) => next(w.at),
+        NextHeader::End(w) => {
+            field(b" end", w.at as u64);
+        }
+        NextHeader::Refused(e, _) => refused(e),
+    }
+    end_line();
+}
+
+pub fn next_entry(label: &[u8], r: NextEntry) {
+    say(label);
+    match r {
+        NextEntry::Address(a, _) => put(a),
+        NextEntry::End(w) => {
+            let entries = w.entries;
+            field(b" end", entries.offset as u64);
+            put(entries.len as u64);
+        }
+        NextEntry::Refused(e, _) => refused(e),
+    }
+    end_line();
+}
+
+fn range_entry(x: RawRngListEntry) {
+    match x {
+        RawRngListEntry::BaseAddress(a) => {
+            field(b" base", a);
+        }
+        RawRngListEntry::AddressOrOffsetPair(b, e) => {
+            put(b);
+            put(e);
+        }
+        RawRngListEntry::StartEnd(b, e) => {
+            field(b" start", b);
+            field(b" end", e);
+        }
+        _ => say(b" of another kind"),
+    }
+}
+
+pub fn range(label: &[u8], r: RngStep) {
+    say(label);
+    match r {
+        RngStep::Entry(x, c) => {
+            range_entry(x);
+            next(c);
+        }
+        RngStep::End => say(b" end"),
+        RngStep::Refused(e) => refused(e),
+    }
+    end_line();
+}
+
+fn expression(x: Expression) {
+    field(b" expression", x.offset as u64);
+    put(x.len as u64);
+}
+
+fn location_entry(x: RawLocListEntry) {
+    match x {
+        RawLocListEntry::DefaultLocation(d) => expression(d),
+        RawLocListEntry::StartxLength(i, n, d) => {
+            field(b" index", i.0);
+            field(b" length", n);
+            expression(d);
+        }
+        _ => say(b" of another kind"),
+    }
+}
+
+pub fn location(label: &[u8], r: LocStep) {
+    say(label);
+    match r {
+        LocStep::Entry(x, c) => {
+            location_entry(x);
+            next(c);
+        }
+        LocStep::End => say(b" end"),
+        LocStep::Refused(e) => refused(e),
+    }
+    end_line();
+}
