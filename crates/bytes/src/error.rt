@@ -1,4 +1,8 @@
 // The refusals. specs/Error.antt gives each its number and values.
+ghost use mathlib.Core.Path.{_≡_};
+ghost use lib.ListN.{getD};
+ghost use Rattle.bytes.specs.Error.{number as numberOf, values as valuesOf};
+
 pub enum Error {
     UnexpectedEof,
     BadUnsignedLeb128,
@@ -12,4 +16,46 @@ pub enum Error {
     TooManyRanges,
     NoSpace,
     BadSheet,
+}
+
+impl Error {
+    // The number of the refusal.
+    pub fn number(self) -> u64
+        ensures { λ r. ⌜ r ≡ numberOf self ⌝ }
+    {
+        match self {
+            Error::UnexpectedEof => 1,
+            Error::BadUnsignedLeb128 => 2,
+            Error::UnknownRangeListsEntry(_) => 3,
+            Error::UnknownLocListsEntry(_) => 4,
+            Error::UnknownVersion(_) => 5,
+            Error::UnsupportedAddressSize(_) => 6,
+            Error::UnsupportedSegmentSize(_) => 7,
+            Error::UnknownReservedLength(_) => 8,
+            Error::UnsupportedOffset => 9,
+            Error::TooManyRanges => 10,
+            Error::NoSpace => 11,
+            Error::BadSheet => 12,
+        }
+    }
+
+    // The value that goes with it; 0 where none does.
+    pub fn value(self) -> u64
+        ensures { λ r. ⌜ r ≡ getD (valuesOf self) 0 0 ⌝ }
+    {
+        match self {
+            Error::UnexpectedEof => 0,
+            Error::BadUnsignedLeb128 => 0,
+            Error::UnknownRangeListsEntry(code) => code,
+            Error::UnknownLocListsEntry(code) => code,
+            Error::UnknownVersion(version) => version,
+            Error::UnsupportedAddressSize(size) => size,
+            Error::UnsupportedSegmentSize(size) => size,
+            Error::UnknownReservedLength(length) => length,
+            Error::UnsupportedOffset => 0,
+            Error::TooManyRanges => 0,
+            Error::NoSpace => 0,
+            Error::BadSheet => 0,
+        }
+    }
 }

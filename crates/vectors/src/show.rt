@@ -17,8 +17,6 @@ use tables::addr::NextHeader;
 use tables::lists::ListsAnswer;
 use tables::loclists::LocationOffsetAnswer;
 use tables::rnglists::RangeOffsetAnswer;
-ghost use mathlib.Core.Path.{_≡_};
-ghost use Rattle.bytes.specs.Error.{number};
 
 pub fn say(text: &[u8]) {
     io::write_all(STDOUT_FILENO, text);
@@ -38,28 +36,8 @@ fn field(name: &[u8], n: u64) {
     put(n);
 }
 
-// The paper's number of a refusal.
-fn number_of(e: Error) -> u64
-    ensures { λ r. ⌜ r ≡ number e ⌝ }
-{
-    match e {
-        Error::UnexpectedEof => 1,
-        Error::BadUnsignedLeb128 => 2,
-        Error::UnknownRangeListsEntry(_) => 3,
-        Error::UnknownLocListsEntry(_) => 4,
-        Error::UnknownVersion(_) => 5,
-        Error::UnsupportedAddressSize(_) => 6,
-        Error::UnsupportedSegmentSize(_) => 7,
-        Error::UnknownReservedLength(_) => 8,
-        Error::UnsupportedOffset => 9,
-        Error::TooManyRanges => 10,
-        Error::NoSpace => 11,
-        Error::BadSheet => 12,
-    }
-}
-
 pub fn refused(e: Error) {
-    field(b" refused", number_of(e));
+    field(b" refused", e.number());
     match e {
         Error::UnknownRangeListsEntry(v) => put(v),
         Error::UnknownLocListsEntry(v) => put(v),
