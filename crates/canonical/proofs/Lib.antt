@@ -1,0 +1,4 @@
+pub mod Unsigned
+pub mod Entries
+pub mod Answers
+pub mod MadeLaws

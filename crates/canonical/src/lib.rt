@@ -1,0 +1,98 @@
+// The canonical list of a coverage, written into lent bytes.
+pub mod of_list;
+
+use bytes::error::Error;
+use coverage::Coverage;
+use coverage::LIMIT;
+use coverage::Wrote;
+use coverage::lawful::is_lawful;
+use coverage::put::put_u64;
+ghost use mathlib.Core.Path.{_≡_};
+ghost use Prim.Native.Nat.{_+_, _≤_};
+ghost use lib.ListN.{length};
+ghost use lib.Seq.{sets};
+ghost use Rattle.coverage.specs.Written.{unsignedBytes};
+ghost use Rattle.coverage.specs.Canonical.{canonicalBytes, canonicalKept};
+ghost use Rattle.coverage.specs.Output.{output, written};
+ghost use Rattle.coverage.specs.Told.{toldWrote};
+ghost use Rattle.canonical.specs.Arrays.{Arrays, firsts};
+
+// How many bytes the shortest unsigned LEB128 form of x has.
+fn unsigned_size(x: u64) -> usize
+    ensures { λ r. ⌜ r ≡ length (unsignedBytes x) ⌝ }
+{
+    let mut n: usize = 1;
+    let mut rest = x;
+    while 128 <= rest {
+        n += 1;
+        rest /= 128;
+    }
+    n
+}
+
+// The shortest unsigned LEB128 form of x from a place on, and the place after it.
+fn put_unsigned(out: &mut [u8], at: usize, x: u64) -> usize
+    requires { ⌜ at + length (unsignedBytes x) ≤ length (now out) ⌝ }
+    ensures { λ r. ⌜ (r ≡ at + length (unsignedBytes x)) × (now (out .exit) ≡ sets (now (out .entry)) at (unsignedBytes x)) ⌝ }
+{
+    let mut p = at;
+    let mut rest = x;
+    while 128 <= rest {
+        out[p] = (rest % 128 + 128) as u8;
+        p += 1;
+        rest /= 128;
+    }
+    out[p] = rest as u8;
+    p + 1
+}
+
+// How many bytes the canonical list of the first n ranges has.
+fn size(n: usize, begins: &[u64; LIMIT], ends: &[u64; LIMIT]) -> usize
+    requires { ⌜ Arrays n (now begins) (now ends) ⌝ }
+    ensures { λ r. ⌜ r ≡ length (canonicalBytes (firsts n (now (begins .entry)) (now (ends .entry)))) ⌝ }
+{
+    let mut i: usize = 0;
+    let mut at: usize = 0;
+    while i < n {
+        at = at + 9 + unsigned_size(ends[i] - begins[i]);
+        i += 1;
+    }
+    at + 1
+}
+
+// The canonical list of the first n ranges, from the output's begin on.
+fn write(n: usize, begins: &[u64; LIMIT], ends: &[u64; LIMIT], out: &mut [u8])
+    requires { ⌜ Arrays n (now begins) (now ends) ⌝ }
+    requires { ⌜ length (canonicalBytes (firsts n (now begins) (now ends))) ≤ length (now out) ⌝ }
+    ensures { λ _. ⌜ now (out .exit) ≡ sets (now (out .entry)) 0 (canonicalBytes (firsts n (now (begins .entry)) (now (ends .entry)))) ⌝ }
+{
+    let mut i: usize = 0;
+    let mut at: usize = 0;
+    while i < n {
+        let begin = begins[i];
+        let end = ends[i];
+        out[at] = 7;
+        put_u64(out, at + 1, begin);
+        at = put_unsigned(out, at + 9, end - begin);
+        i += 1;
+    }
+    out[at] = 0;
+}
+
+// The canonical list of a coverage, and how many bytes it has: 12 where the coverage makes no lawful sheet, then 11.
+pub fn canonical(coverage: Coverage, out: &mut [u8]) -> Wrote
+    ensures { λ r. ⌜ output (toldWrote r) (now (out .exit)) ≡ written (canonicalKept coverage) (now (out .entry)) ⌝ }
+{
+    if !is_lawful(coverage) {
+        return Wrote::Refused(Error::BadSheet);
+    }
+    let n = coverage.n;
+    let begins = coverage.begins;
+    let ends = coverage.ends;
+    let len = size(n, &begins, &ends);
+    if out.len() < len {
+        return Wrote::Refused(Error::NoSpace);
+    }
+    write(n, &begins, &ends, out);
+    Wrote::Bytes(len)
+}

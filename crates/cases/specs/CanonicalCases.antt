@@ -1,0 +1,47 @@
+-- The table's rows on coverage, sheets and canonical lists: document 01's last T case, from a list's bytes, and refusal 12's
+-- example.
+use mathlib.Core.Path.{_≡_, refl}
+use mathlib.Core.List.{[], _∷_}
+use Rattle.bytes.specs.Read.{gives, refuses}
+use Rattle.bytes.specs.Endianity.{little}
+use Rattle.bytes.specs.Reader.{skip, uint, isSize, address}
+use Rattle.bytes.specs.declared.common.Format.the-variants.{Dwarf32}
+use Rattle.bytes.specs.declared.endianity.RunTimeEndian.the-variants.{Little}
+use Rattle.entries.specs.Kinds.{rangeKinds, kindOf, coded, rangeEntry, rawAt}
+use Rattle.lists.specs.Open.{opened}
+use Rattle.lists.specs.Convert.{convert}
+use Rattle.lists.specs.Walk.{traceFrom, trace}
+use Rattle.coverage.specs.Ranges.{insert, inserts}
+use Rattle.coverage.specs.Covered.{Source, rangeList, yieldedIn, traceOf, yieldedOf, coverageOf}
+use Rattle.coverage.specs.Kept.{lawfulFrom}
+use Rattle.coverage.specs.Written.{littleBytes, unsignedIn}
+use Rattle.coverage.specs.Sheet.{addressBytes, sheetBytes, addressesIn, isSheet, sheetRanges}
+use Rattle.coverage.specs.Canonical.{entryBytes, canonicalBytes, canonicalOf}
+
+-- ranges 0x20 to 0x30 and 0x10 to 0x20 of a list of address size 4
+list : Source
+list =
+    record {
+      section = 0x06 ∷ 0x20 ∷ 0 ∷ 0 ∷ 0 ∷ 0x30 ∷ 0 ∷ 0 ∷ 0 ∷ 0x06 ∷ 0x10 ∷ 0 ∷ 0 ∷ 0 ∷ 0x20 ∷ 0 ∷ 0 ∷ 0 ∷ 0 ∷ [];
+      table = [];
+      offset = 0;
+      «base_address» = 0;
+      «table_base» = record { 0 = 0 };
+      encoding = record { «address_size» = 4; format = Dwarf32; version = 5 };
+      endian = Little;
+      holds = rangeList;
+    }
+
+canonical : canonicalOf list ≡ gives (0x07 ∷ 0x10 ∷ 0 ∷ 0 ∷ 0 ∷ 0 ∷ 0 ∷ 0 ∷ 0 ∷ 0x20 ∷ 0 ∷ [])
+unfolding
+    list canonicalOf coverageOf yieldedOf yieldedIn traceOf opened trace traceFrom convert rawAt rangeEntry coded kindOf rangeKinds address uint skip isSize little
+    inserts insert canonicalBytes entryBytes littleBytes unsignedIn
+canonical = refl
+
+no-sheet : sheetRanges (0x01 ∷ 0 ∷ 0x08 ∷ 0 ∷ []) ≡ refuses 12 []
+unfolding sheetRanges isSheet little
+no-sheet = refl
+
+sheet-back : sheetRanges (sheetBytes ((0x10, 0x30) ∷ (0x40, 0x50) ∷ [])) ≡ gives ((0x10, 0x30) ∷ (0x40, 0x50) ∷ [])
+unfolding sheetRanges isSheet little sheetBytes addressBytes littleBytes addressesIn lawfulFrom
+sheet-back = refl

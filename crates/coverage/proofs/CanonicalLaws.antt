@@ -1,0 +1,157 @@
+-- A canonical list walked back yields the ranges it was written from, one by one: by induction on the ranges.
+-- Assumes nothing.
+use mathlib.Core.Path.{_≡_, refl, sym, ap, _∙_}
+use mathlib.Core.Bool.{true}
+use mathlib.Core.List.{List, [], _∷_, _++_, append-assoc}
+use Prim.Native.Nat.{ℕ, zero, suc, _+_, _-_, _^_, _≤_, _<_}
+use native.Mathlib.Omega.{arith}
+use lib.ListN.{length, drop, getD, length-append, length-drop}
+use lib.Seq.{take-at, drop-drop, drop-append-seam}
+use borrow.Author.Tests.{lt-leb}
+use Rattle.bytes.specs.Read.{got, Result}
+use Rattle.bytes.specs.Endianity.{little}
+use Rattle.bytes.specs.Reader.{uint, isSize, address}
+use Rattle.bytes.specs.Leb128.{unsigned}
+use Rattle.bytes.specs.Address.{addSized}
+use Rattle.bytes.specs.declared.common.DebugAddrIndex.{DebugAddrIndex}
+use Rattle.bytes.specs.declared.common.Format.{Format}
+use Rattle.bytes.specs.declared.endianity.RunTimeEndian.the-variants.{Little}
+use Rattle.bytes.proofs.ReaderLaws.{uint-got, address-size}
+use Rattle.entries.specs.Forms.{stop, entry}
+use Rattle.entries.specs.Kinds.{rangeKinds, kindOf, coded, rangeEntry, moved, rawRange}
+use Rattle.entries.specs.declared.RawRngListEntry.the-variants.{StartLength}
+use Rattle.entries.proofs.KindLaws.{range-coded, raw-there}
+use Rattle.entries.proofs.EntryTook.{range-took}
+use Rattle.lists.specs.Open.{walkAt}
+use Rattle.lists.specs.Convert.{range, convert}
+use Rattle.lists.specs.Walk.{ranges, item, Trace, over, gave, trace}
+use Rattle.lists.proofs.Bounds.{InBounds}
+use Rattle.lists.proofs.Local.{past}
+use Rattle.lists.proofs.WalkLaws.{Moved, met-entry, met-end}
+use Rattle.coverage.specs.Ranges.{Range}
+use Rattle.coverage.specs.Written.{littleBytes, unsignedBytes}
+use Rattle.coverage.specs.Canonical.{entryBytes, canonicalBytes, canonicalEncoding}
+use Rattle.coverage.proofs.WrittenLaws.{length-little, little-back, unsigned-back, append-bytes, little-bytes, unsigned-bytes}
+
+-- each range of a list has a property of its begin and end
+abbrev pub All : (ℕ → ℕ → Type 0) → List Range → Type 0
+All P [] = Unit
+All P (r ∷ rs) = P (r .0) (r .1) × All P rs
+
+-- ranges of 64-bit addresses: begin below end and below 2^64 - 2, end at most 2^64 - 1
+abbrev pub Small : List Range → Type 0
+Small rs = All (InBounds 8) rs
+
+-- an entry's bytes with what follows them
+spread : Range → List ℕ → List ℕ
+spread r rest = 7 ∷ (littleBytes 8 (r .0) ++ (unsignedBytes (r .1 - r .0) ++ rest))
+
+entry-spread : (r : Range) (rest : List ℕ) → entryBytes r ++ rest ≡ spread r rest
+unfolding entryBytes spread
+entry-spread r rest = simp append-assoc
+
+entry-length : (r : Range) → length (entryBytes r) ≡ 9 + length (unsignedBytes (r .1 - r .0))
+unfolding entryBytes
+entry-length r = rw (length-append, length-little) (omega arith)
+
+size-8 : isSize 8 ≡ true
+unfolding isSize
+size-8 = refl
+
+module _ (format : Format) (r : Range) (rest : List ℕ) (small : InBounds 8 (r .0) (r .1)) where
+  spread-length : length (spread r rest) ≡ 9 + length (unsignedBytes (r .1 - r .0) ++ rest)
+  unfolding spread
+  spread-length = rw (length-append (littleBytes 8 (r .0)) (unsignedBytes (r .1 - r .0) ++ rest), length-little) (omega arith)
+
+  code-back : uint Little 1 (spread r rest) 0 ≡ got 7 1
+  unfolding spread little
+  code-back = uint-got Little 1 (spread r rest) 0 (omega (arith, spread-length))
+
+  begin-back : address Little 8 (spread r rest) 1 ≡ got (r .0) 9
+  unfolding spread
+  begin-back =
+      address-size Little 8 (spread r rest) 1 size-8
+      ∙ uint-got Little 8 (spread r rest) 1 (omega (arith, spread-length))
+      ∙ ap (λ (l : List ℕ). got (little l) 9) (take-at (littleBytes 8 (r .0)) (unsignedBytes (r .1 - r .0) ++ rest) 8 (length-little 8 (r .0)))
+      ∙ ap (λ (n : ℕ). got n 9) (little-back 8 (r .0) (omega arith))
+
+  length-back : unsigned (spread r rest) 9 ≡ got (r .1 - r .0) (9 + length (unsignedBytes (r .1 - r .0)))
+  unfolding spread littleBytes unsigned
+  length-back = unsigned-back 0 9 (r .1 - r .0) 9 rest refl (omega arith)
+
+  -- the raw entry of a range
+  entry-back : rangeEntry (canonicalEncoding format) Little (spread r rest) ≡ got (entry (StartLength (r .0) (r .1 - r .0))) (9 + length (unsignedBytes (r .1 - r .0)))
+  unfolding coded kindOf rangeKinds
+  entry-back = range-coded (canonicalEncoding format) Little (spread r rest) (omega arith) ∙ rw (code-back, begin-back, length-back)
+
+-- the raw entry of the end mark
+end-back : (format : Format) → rangeEntry (canonicalEncoding format) Little (0 ∷ []) ≡ got stop 1
+unfolding coded kindOf rangeKinds little
+end-back format = range-coded (canonicalEncoding format) Little (0 ∷ []) (omega arith) ∙ rw (uint-got Little 1 (0 ∷ []) 0 (omega arith))
+
+-- what the entry comes to
+turn-back : (table : DebugAddrIndex → Result ℕ) (base b e : ℕ) → InBounds 8 b e → range b e ≡ convert table 8 base (StartLength b (e - b))
+unfolding convert
+turn-back table base b e small =
+    let s : addSized b (e - b) 8 ≡ e = omega arith in
+    rw (s, lt-leb (2 ^ 64 - 2) b (small .1), lt-leb e b (small .0))
+
+-- what a canonical list does: it hands out each range, with the walk after its entry; then it is over
+abbrev pub handed : ℕ → ℕ → ℕ → List Range → Trace Unit
+handed len base at [] = over (walkAt len base)
+handed len base at (r ∷ rs) =
+    gave (item (r .0) (r .1) tt) (walkAt (at + length (entryBytes r)) base) (handed len base (at + length (entryBytes r)) rs)
+
+bytes-some : (rs : List Range) → 1 ≤ length (canonicalBytes rs)
+unfolding canonicalBytes
+bytes-some [] = omega arith
+bytes-some (r ∷ rs) = omega (arith, length-append (entryBytes r) (canonicalBytes rs), bytes-some rs)
+
+module _ (format : Format) (s : List ℕ) (table : DebugAddrIndex → Result ℕ) (base : ℕ) where
+  moves : (at : ℕ) → at < length s → Moved at (length s) (rawRange (canonicalEncoding format) Little s at)
+  moves = past _ Unit (λ e. e) (λ e. tt) (rawRange (canonicalEncoding format) Little) (range-took (canonicalEncoding format) Little) s
+
+  inside : (rs : List Range) (at : ℕ) → drop at s ≡ canonicalBytes rs → at < length s
+  inside rs at d = omega (arith, length-drop at s, ap length d, bytes-some rs)
+
+  read-entry : (at : ℕ) (r : Range) (rest : List ℕ) → InBounds 8 (r .0) (r .1) → at < length s → drop at s ≡ entryBytes r ++ rest
+      → rawRange (canonicalEncoding format) Little s at ≡ got (entry (StartLength (r .0) (r .1 - r .0))) (at + length (entryBytes r))
+  read-entry at r rest small h d =
+      raw-there (rangeEntry (canonicalEncoding format) Little) s at h
+      ∙ ap (λ (l : List ℕ). moved at (rangeEntry (canonicalEncoding format) Little l)) (d ∙ entry-spread r rest)
+      ∙ ap (moved at) (entry-back format r rest small)
+      ∙ ap (λ (n : ℕ). got (entry (StartLength (r .0) (r .1 - r .0))) (at + n)) (sym (entry-length r))
+
+  walked-from : (rs : List Range) → Small rs → (at : ℕ) → drop at s ≡ canonicalBytes rs
+      → trace (ranges (canonicalEncoding format) Little s) table 8 (length s) (walkAt at base) ≡ handed (length s) base at rs
+  unfolding canonicalBytes
+  walked-from [] small at d =
+      let h = inside [] at d in
+      met-end (ranges (canonicalEncoding format) Little s) table 8 (length s) moves at base h
+      (raw-there (rangeEntry (canonicalEncoding format) Little) s at h ∙ ap (λ (l : List ℕ). moved at (rangeEntry (canonicalEncoding format) Little l)) d ∙ ap (moved at) (end-back format))
+  walked-from (r ∷ rs) small at d =
+      let h = inside (r ∷ rs) at d in
+      let c = at + length (entryBytes r) in
+      let rest : drop c s ≡ canonicalBytes rs = sym (drop-drop (length (entryBytes r)) at s) ∙ ap (drop (length (entryBytes r))) d ∙ drop-append-seam (entryBytes r) (canonicalBytes rs) in
+      met-entry (ranges (canonicalEncoding format) Little s) table 8 (length s) moves at base h
+      (read-entry at r (canonicalBytes rs) (small .0) h d) (turn-back table base (r .0) (r .1) (small .0))
+      ∙ ap (gave (item (r .0) (r .1) tt) (walkAt c base)) (walked-from rs (small .1) c rest)
+
+-- a canonical list walked as the DWARF 5 range list of size 8 that it is, with any base address and any address table: each
+-- range in order, then over
+pub walked-back : (format : Format) (rs : List Range) → Small rs → (table : DebugAddrIndex → Result ℕ) (base : ℕ)
+    → trace (ranges (canonicalEncoding format) Little (canonicalBytes rs)) table 8 (length (canonicalBytes rs)) (walkAt 0 base) ≡ handed (length (canonicalBytes rs)) base 0 rs
+walked-back format rs small table base = walked-from format (canonicalBytes rs) table base rs small 0 refl
+
+-- canonical bytes are bytes
+entry-bytes : (r : Range) → InBounds 8 (r .0) (r .1) → (i : ℕ) → getD (entryBytes r) i 0 < 256
+unfolding entryBytes
+entry-bytes r small zero = omega arith
+entry-bytes r small (suc i) =
+    append-bytes (littleBytes 8 (r .0)) (unsignedBytes (r .1 - r .0)) (little-bytes 8 (r .0)) (λ j. unsigned-bytes 9 (r .1 - r .0) j (omega arith)) i
+
+pub canonical-bytes : (rs : List Range) → Small rs → (i : ℕ) → getD (canonicalBytes rs) i 0 < 256
+unfolding canonicalBytes
+canonical-bytes [] small zero = omega arith
+canonical-bytes [] small (suc i) = omega arith
+canonical-bytes (r ∷ rs) small i = append-bytes (entryBytes r) (canonicalBytes rs) (entry-bytes r (small .0)) (canonical-bytes rs (small .1)) i

@@ -1,0 +1,14 @@
+pub mod RangeLaws
+pub mod SortLaws
+pub mod WrittenLaws
+pub mod CanonicalLaws
+pub mod CoveredLaws
+pub mod KeptLaws
+pub mod SheetLaws
+pub mod OutputLaws
+pub mod CallLaws
+pub mod GatherLaws
+pub mod Sources
+pub mod Demand
+pub mod Checked
+pub mod PutLaws

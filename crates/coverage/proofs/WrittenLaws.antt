@@ -1,0 +1,152 @@
+-- Numbers written are read back, and bytes read are those written: by induction on the bytes. Assumes nothing.
+use mathlib.Core.Path.{_≡_, refl, ap, ap₂, _∙_, subst}
+use mathlib.Core.Bool.{true, _&&_}
+use mathlib.Core.List.{List, [], _∷_, _++_}
+use mathlib.Core.Logic.{_⊎_, ⊎-elim}
+use Prim.Native.Nat.{ℕ, zero, suc, _+_, _-_, _*_, _/_, _%_, _^_, _≤_, _<_}
+use native.Mathlib.Nat.{pow-suc}
+use native.Mathlib.Omega.{arith}
+use lib.Dec.{eqb, ltb}
+use lib.ListN.{length, getD, drop}
+use borrow.Author.Tests.{lt-ltb, le-ltb, ne-eqb, eq-eqb, ltb-true, ltb-false}
+use Rattle.bytes.specs.Read.{Read, got, refused}
+use Rattle.bytes.specs.Endianity.{little}
+use Rattle.bytes.specs.Leb128.{below, unsignedFrom, unsigned}
+use Rattle.bytes.proofs.Took.{pick-ind}
+use Rattle.coverage.specs.Written.{littleBytes, unsignedIn, unsignedBytes}
+use Rattle.coverage.proofs.RangeLaws.{lt-or-le}
+
+pub length-little : (k x : ℕ) → length (littleBytes k x) ≡ k
+unfolding littleBytes
+length-little zero x = refl
+length-little (suc k) x = ap suc (length-little k (x / 256))
+
+-- a number of k bytes
+pub little-back : (k x : ℕ) → x < 256 ^ k → little (littleBytes k x) ≡ x
+unfolding little littleBytes
+little-back zero x h = omega arith
+little-back (suc k) x h =
+    let l : x < 256 ^ k * 256 = rw pow-suc at h in
+    rw (little-back k (x / 256) (omega arith)) (omega arith)
+
+-- bytes are those of their number
+pub little-written : (bs : List ℕ) → ((i : ℕ) → getD bs i 0 < 256) → littleBytes (length bs) (little bs) ≡ bs
+unfolding little littleBytes
+little-written [] h = refl
+little-written (b ∷ bs) h =
+    let l : b < 256 = h 0 in
+    let m : (b + 256 * little bs) % 256 ≡ b = omega arith in
+    let d : (b + 256 * little bs) / 256 ≡ little bs = omega arith in
+    ap₂ _∷_ m (ap (littleBytes (length bs)) d ∙ little-written bs (λ i. h (suc i)))
+
+-- what was read as the k-th byte of a number and the bytes after it
+module _ (j at x : ℕ) (rest : List ℕ) where
+  last-byte : j ≤ 8 → x < 128 → unsignedFrom j (x ∷ rest) at ≡ got x (at + 1)
+  unfolding unsignedFrom
+  last-byte h l = simp (ne-eqb j 9 (λ e. omega arith), lt-ltb x 128 l)
+
+  more-bytes : j ≤ 8 → 128 ≤ x → unsignedFrom j (x ∷ rest) at ≡ below x (unsignedFrom (j + 1) rest (at + 1))
+  unfolding unsignedFrom
+  more-bytes h l = simp (ne-eqb j 9 (λ e. omega arith), le-ltb x 128 l)
+
+  tenth-byte : j ≡ 9 → x ≤ 1 → unsignedFrom j (x ∷ rest) at ≡ got x (at + 1)
+  unfolding unsignedFrom
+  tenth-byte h l = let m : x < 128 = omega arith in simp (eq-eqb j 9 h, le-ltb 1 x l, lt-ltb x 128 m)
+
+module _ (k x : ℕ) where
+  pub unsigned-short : x < 128 → unsignedIn (suc k) x ≡ x ∷ []
+  unfolding unsignedIn
+  unsigned-short h = rw (lt-ltb x 128 h)
+
+  pub unsigned-long : 128 ≤ x → unsignedIn (suc k) x ≡ (x % 128 + 128) ∷ unsignedIn k (x / 128)
+  unfolding unsignedIn
+  unsigned-long h = rw (le-ltb x 128 h)
+
+below-back : (x at n : ℕ) → below (x % 128 + 128) (got (x / 128) (at + 1 + n)) ≡ got x (at + suc n)
+below-back x at n =
+    let v : (x % 128 + 128) % 128 + 128 * (x / 128) ≡ x = omega arith in
+    let c : at + 1 + n ≡ at + suc n = omega arith in
+    ap₂ got v c
+
+-- a number from its k-th byte from the end on
+pub unsigned-back : (j k x at : ℕ) (rest : List ℕ) → j + k ≡ 9 → x < 2 * 128 ^ k → unsignedFrom j (unsignedIn k x ++ rest) at ≡ got x (at + length (unsignedIn k x))
+unfolding unsignedIn
+unsigned-back j zero x at rest e h = tenth-byte j at x rest (omega arith) (omega arith)
+unsigned-back j (suc k) x at rest e h =
+    let l : x < 2 * (128 ^ k * 128) = rw pow-suc at h in
+    ⊎-elim
+    (λ s. rw (unsigned-short k x s) (last-byte j at x rest (omega arith) s))
+    (λ s. rw (unsigned-long k x s)
+    (more-bytes j at (x % 128 + 128) (unsignedIn k (x / 128) ++ rest) (omega arith) (omega arith)
+    ∙ ap (below (x % 128 + 128)) (unsigned-back (j + 1) k (x / 128) (at + 1) rest (omega arith) (omega arith))
+    ∙ below-back x at (length (unsignedIn k (x / 128)))))
+    (lt-or-le x 128)
+
+-- the number of bytes is below as many powers of 256
+pub little-lt : (bs : List ℕ) → ((i : ℕ) → getD bs i 0 < 256) → little bs < 256 ^ length bs
+unfolding little
+little-lt [] h = omega arith
+little-lt (b ∷ bs) h = let l : b < 256 = h 0 in let k = little-lt bs (λ i. h (suc i)) in rw pow-suc (omega arith)
+
+-- no form of a number is shorter: by induction on the bytes that are read
+abbrev Least : ℕ → ℕ → Read ℕ → Type 0
+Least k at (got v c) = at + length (unsignedIn k v) ≤ c
+Least k at (refused n vs) = Unit
+
+one-byte : (k x : ℕ) → x < 128 → length (unsignedIn k x) ≡ 1
+unfolding unsignedIn
+one-byte zero x h = refl
+one-byte (suc k) x h = ap length (unsigned-short k x h)
+
+divided : (b v : ℕ) → (b % 128 + 128 * v) / 128 ≡ v
+divided b v = omega arith
+
+below-least : (k at b : ℕ) (r : Read ℕ) → Least k (at + 1) r → Least (suc k) at (below b r)
+below-least k at b (got v c) h =
+    ⊎-elim (λ l. omega (arith, one-byte (suc k) (b % 128 + 128 * v) l))
+    (λ l. omega (arith, ap length (unsigned-long k (b % 128 + 128 * v) l), ap (λ (x : ℕ). length (unsignedIn k x)) (divided b v)))
+    (lt-or-le (b % 128 + 128 * v) 128)
+below-least k at b (refused n vs) h = tt
+
+from-least : (s : List ℕ) (j k at : ℕ) → j + k ≡ 9 → Least k at (unsignedFrom j s at)
+unfolding unsignedFrom
+from-least [] j k at e = tt
+from-least (b ∷ bs) j zero at e =
+    pick-ind (Least zero at) (eqb j 9 && ltb 1 b) (λ x. tt)
+    (λ x. pick-ind (Least zero at) (ltb b 128) (λ y. omega (arith, one-byte zero b (ltb-true b 128 y)))
+    (λ y. let z : (eqb j 9 && ltb 1 b) ≡ true = rw (eq-eqb j 9 (omega arith)) (lt-ltb 1 b (omega (arith, ltb-false b 128 y))) in
+    let f : _≡_ {A = ℕ} 0 1 = cc in absurd (omega arith)))
+from-least (b ∷ bs) j (suc k) at e =
+    pick-ind (Least (suc k) at) (eqb j 9 && ltb 1 b) (λ x. tt)
+    (λ x. pick-ind (Least (suc k) at) (ltb b 128) (λ y. omega (arith, one-byte (suc k) b (ltb-true b 128 y)))
+    (λ y. below-least k at b (unsignedFrom (j + 1) bs (at + 1)) (from-least bs (j + 1) k (at + 1) (omega arith))))
+
+pub shortest : (s : List ℕ) (at : ℕ) {v c : ℕ} → unsigned s at ≡ got v c → at + length (unsignedBytes v) ≤ c
+unfolding unsigned
+shortest s at e = subst (Least 9 at) e (from-least (drop at s) 0 9 at refl)
+
+-- what is written is bytes
+pub append-bytes : (xs ys : List ℕ) → ((i : ℕ) → getD xs i 0 < 256) → ((i : ℕ) → getD ys i 0 < 256) → (i : ℕ) → getD (xs ++ ys) i 0 < 256
+append-bytes [] ys h k i = k i
+append-bytes (x ∷ xs) ys h k zero = h 0
+append-bytes (x ∷ xs) ys h k (suc i) = append-bytes xs ys (λ j. h (suc j)) k i
+
+pub little-bytes : (k x i : ℕ) → getD (littleBytes k x) i 0 < 256
+unfolding littleBytes
+little-bytes zero x i = omega arith
+little-bytes (suc k) x zero = omega arith
+little-bytes (suc k) x (suc i) = little-bytes k (x / 256) i
+
+one-bytes : (x i : ℕ) → x < 256 → getD (x ∷ []) i 0 < 256
+one-bytes x zero h = h
+one-bytes x (suc i) h = omega arith
+
+pub unsigned-bytes : (k x i : ℕ) → x < 2 * 128 ^ k → getD (unsignedIn k x) i 0 < 256
+unfolding unsignedIn
+unsigned-bytes zero x i h = one-bytes x i (omega arith)
+unsigned-bytes (suc k) x i h =
+    let l : x < 2 * (128 ^ k * 128) = rw pow-suc at h in
+    ⊎-elim
+    (λ s. rw (unsigned-short k x s) (one-bytes x i (omega arith)))
+    (λ s. rw (unsigned-long k x s) (append-bytes ((x % 128 + 128) ∷ []) (unsignedIn k (x / 128)) (λ j. one-bytes (x % 128 + 128) j (omega arith)) (λ j. unsigned-bytes k (x / 128) j (omega arith)) i))
+    (lt-or-le x 128)

@@ -1,0 +1,52 @@
+-- The list opens or its refusal is the answer; the ranges gathered from its walk make its coverage. Assumes nothing.
+use mathlib.Core.Path.{refl, sym, ap, _∙_}
+use native.Mathlib.Omega.{arith}
+use borrow.Author.Needs.{needs}
+use Rattle.lists.specs.Open.{toldOpened}
+use Rattle.coverage.specs.Covered.{rangeList, source}
+use Rattle.coverage.specs.Told.{made}
+use Rattle.coverage.proofs.CallLaws.{coverage-refused}
+use Rattle.coverage.proofs.CoveredLaws.{opened-size}
+use Rattle.coverage.proofs.GatherLaws.{gathered-asks, gathered-made}
+use Rattle.coverage.proofs.collect.range_coverage.Statement.{statement}
+use Rattle.coverage.proofs.collect.range_coverage.Tie as tie
+
+ranges-requires : tie.Need-ranges-requires
+ranges-requires c κs = search needs
+
+enum-known-e : tie.Need-enum-known-e
+enum-known-e c = search needs
+
+refused-requires : tie.Need-refused-requires
+refused-requires c κs = search needs
+
+enum-known-start : tie.Need-enum-known-start
+enum-known-start c = search needs
+
+collect-ranges-requires : tie.Need-collect-ranges-requires
+collect-ranges-requires c κs = (opened-size _ _ _ _ (sym (c .before .before .before .before .before .ranges .ensures) ∙ ap toldOpened (c .before .before .before .start .given .1)), (refl, refl))
+
+covered-requires : tie.Need-covered-requires
+covered-requires c κs =
+    let a = c .before .before .before .before .before .before .before .before .before .before .before .args in
+    gathered-asks (source rangeList (a .encoding) (a .endian) (a .section .now) (a .offset .0) (a .base-address) (a .debug-addr .now) (a .debug-addr-base)) (sym (c .before .before .before .before .before .before .before .before .ranges .ensures) ∙ ap toldOpened (c .before .before .before .before .before .before .start .given .1)) (c .before .before .collect-ranges .ensures)
+    (record { section = λ i. omega (arith, c .before .before .before .before .before .before .before .before .before .before .shared-slice-known .given i); table = λ i. omega (arith, c .before .before .before .before .before .before .before .before .before .shared-slice-known2 .given i) })
+
+returns : tie.Need-returns
+returns c = c .refused .ensures ∙ sym (ap made (coverage-refused _ (sym (c .before .before .before .before .ranges .ensures) ∙ ap toldOpened (c .before .before .e .given .1))))
+
+returns-2 : tie.Need-returns-2
+returns-2 c = gathered-made _ (sym (c .before .before .before .before .before .before .before .before .before .ranges .ensures) ∙ ap toldOpened (c .before .before .before .before .before .before .before .start .given .1)) (c .before .before .before .collect-ranges .ensures) (c .covered .ensures)
+
+pub range-coverage-spec : {M : Type 1} → statement M
+range-coverage-spec =
+    tie.close
+    (tie.spec
+    ranges-requires
+    enum-known-e
+    refused-requires
+    enum-known-start
+    collect-ranges-requires
+    covered-requires
+    returns
+    returns-2)

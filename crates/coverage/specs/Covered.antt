@@ -1,0 +1,98 @@
+-- What a list covers, from its bytes alone: the ranges it yields from opening to its first end, and their runs.
+use mathlib.Core.Bool.{Bool}
+use mathlib.Core.List.{List, [], _∷_}
+use Prim.Native.Nat.{ℕ, zero, suc, _<_}
+use lib.ListN.{length, getD}
+use Rattle.bytes.specs.Read.{Result, gives, refuses}
+use Rattle.bytes.specs.Error.{refusing}
+use Rattle.bytes.specs.declared.common.DebugAddrBase.{DebugAddrBase}
+use Rattle.bytes.specs.declared.common.Encoding.{Encoding}
+use Rattle.bytes.specs.declared.endianity.RunTimeEndian.{RunTimeEndian}
+use Rattle.bytes.specs.declared.error.Error.the-variants.{TooManyRanges}
+use Rattle.lists.specs.Open.{opened}
+use Rattle.lists.specs.Convert.{tableAt}
+use Rattle.lists.specs.Walk.{Listing, ranges, locations, item, Trace, over, gave, lost, trace}
+use Rattle.lists.specs.declared.Walk.{Walk}
+use Rattle.coverage.specs.Ranges.{Range, Covers, limit, runs}
+
+-- a function of what is given; a refusal stays
+abbrev pub mapped : {A B : Type 0} → (A → B) → Result A → Result B
+mapped f (gives a) = gives (f a)
+mapped f (refuses n vs) = refuses n vs
+
+-- what follows what is given; a refusal is the answer
+abbrev pub onward : {A B : Type 0} → Result A → (A → Result B) → Result B
+onward (gives a) f = f a
+onward (refuses n vs) f = refuses n vs
+
+-- the ranges that a list yields, in order, with room for some number of them: the first refusal met is the answer, or
+-- refusal 10 at the first range without room, whichever comes first (document 01, "Refusals")
+unfoldable pub yieldedIn : {D : Type 0} → ℕ → Trace D → Result (List Range)
+yieldedIn room (over w) = gives []
+yieldedIn room (lost n vs w t) = refuses n vs
+yieldedIn zero (gave i w t) = refusing TooManyRanges
+yieldedIn (suc room) (gave (item b e d) w t) = mapped (λ rs. (b, e) ∷ rs) (yieldedIn room t)
+
+-- whether a list holds ranges or locations, and then whether it is split (document 01, "Demand 3")
+pub data Holds : Type 0 where
+  rangeList : Holds
+  locationList : Bool → Holds
+
+-- a list: its sections, offset, base address, address table and table base, version and size, byte order, and what it holds
+-- (document 01, "Demand 3")
+pub record Source : Type 0 where
+  pub section : List ℕ
+  pub table : List ℕ
+  pub offset : ℕ
+  pub «base_address» : ℕ
+  pub «table_base» : DebugAddrBase
+  pub encoding : Encoding
+  pub endian : RunTimeEndian
+  pub holds : Holds
+
+-- the same from its parts
+abbrev pub source : Holds → Encoding → RunTimeEndian → List ℕ → ℕ → ℕ → List ℕ → DebugAddrBase → Source
+source holds p endian s offset base table tableBase =
+    record {
+      section = s;
+      table = table;
+      offset = offset;
+      «base_address» = base;
+      «table_base» = tableBase;
+      encoding = p;
+      endian = endian;
+      holds = holds;
+    }
+
+-- how a list's entries are read
+abbrev pub listed : Holds → Encoding → RunTimeEndian → List ℕ → Listing
+listed rangeList p endian s = ranges p endian s
+listed (locationList split) p endian s = locations split p endian s
+
+-- what a list does from a walk on
+unfoldable pub traceOf : (x : Source) → Walk → Trace (listed (x .holds) (x .encoding) (x .endian) (x .section) .Carried)
+traceOf x w =
+    trace (listed (x .holds) (x .encoding) (x .endian) (x .section)) (tableAt (x .endian) (x .encoding) (x .«table_base») (x .table))
+    (x .encoding .«address_size») (length (x .section)) w
+
+-- the ranges that a list yields: its opening, then its walk (document 01, "Demand 3")
+unfoldable pub yieldedOf : Source → Result (List Range)
+yieldedOf x = onward (opened (x .encoding) (x .section) (x .offset) (x .«base_address»)) (λ w. yieldedIn limit (traceOf x w))
+
+-- the coverage of a list, or its refusal (document 01, "Coverage")
+unfoldable pub coverageOf : Source → Result (List Range)
+coverageOf x = mapped runs (yieldedOf x)
+
+-- the addresses inside some range that is given; a refused list covers nothing
+abbrev pub CoversGiven : Result (List Range) → ℕ → Type 0
+CoversGiven (gives rs) a = Covers rs a
+CoversGiven (refuses n vs) a = ⊥
+
+-- the addresses inside some range that a list yields (document 01, "Coverage")
+abbrev pub CoveredBy : Source → ℕ → Type 0
+CoveredBy x a = CoversGiven (yieldedOf x) a
+
+-- a list whose sections hold bytes, as every lent section does
+pub record Bytes (x : Source) : Type 0 where
+  pub section : (i : ℕ) → getD (x .section) i 0 < 256
+  pub table : (i : ℕ) → getD (x .table) i 0 < 256

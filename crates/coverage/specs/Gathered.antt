@@ -1,0 +1,38 @@
+-- The ranges that a call gathered in two lent arrays, and those that a list yields.
+use mathlib.Core.Bool.{Bool, true, false}
+use mathlib.Core.List.{List}
+use mathlib.Core.Path.{_≡_}
+use Prim.Native.Nat.{ℕ, _≤_, _<_}
+use lib.ListN.{set}
+use Rattle.bytes.specs.Read.{Result, gives, refuses}
+use Rattle.bytes.specs.Error.{refusing}
+use Rattle.coverage.specs.Ranges.{Range, Apart, limit, runs}
+use Rattle.coverage.specs.Sorted.{Sized, first}
+use Rattle.coverage.specs.declared.collect.Collected.{Collected}
+use Rattle.coverage.specs.declared.collect.Collected.the-variants as collected
+
+-- a range stored at a place of two arrays, if it has it
+abbrev pub Stored : Bool → Range → ℕ → List ℕ → List ℕ → List ℕ → List ℕ → Type 0
+Stored true r n bs es xs ys = (n < limit) × (xs ≡ set bs n (r .0)) × (ys ≡ set es n (r .1))
+Stored false r n bs es xs ys = (limit ≤ n) × (xs ≡ bs) × (ys ≡ es)
+
+-- as many ranges as were counted, from the front of two arrays, or the refusal
+abbrev pub toldCollected : Collected → List ℕ → List ℕ → Result (List Range)
+toldCollected (collected.Got n) bs es = gives (first n bs es)
+toldCollected (collected.Refused e) bs es = refusing e
+
+-- no more than there is room for
+abbrev pub Few : Collected → Type 0
+Few (collected.Got n) = n ≤ limit
+Few (collected.Refused e) = Unit
+
+-- the runs of the ranges that are given keep apart
+abbrev pub RunsApart : Result (List Range) → Type 0
+RunsApart (gives rs) = Apart (runs rs)
+RunsApart (refuses n vs) = Unit
+
+-- the ranges gathered are those that a list yields
+pub record Gathered (yielded : Result (List Range)) (r : Collected) (bs es : List ℕ) : Type 0 where
+  pub told : toldCollected r bs es ≡ yielded
+  pub few : Few r
+  pub sized : Sized bs es

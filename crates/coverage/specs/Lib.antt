@@ -1,0 +1,10 @@
+pub mod Ranges
+pub mod Covered
+pub mod Kept
+pub mod Written
+pub mod Sheet
+pub mod Canonical
+pub mod Output
+pub mod Told
+pub mod Sorted
+pub mod Gathered

@@ -1,0 +1,51 @@
+-- A coverage's sheet, and reading it back (document 01, "Sheet" and refusal 12).
+use mathlib.Core.Bool.{Bool, _&&_}
+use mathlib.Core.List.{List, [], _∷_, _++_}
+use Prim.Native.Nat.{ℕ, zero, suc, _+_, _*_}
+use lib.Dec.{leb, eqb}
+use lib.ListN.{length, take, drop}
+use Rattle.bytes.specs.Read.{Result, gives, pick}
+use Rattle.bytes.specs.Error.{refusing}
+use Rattle.bytes.specs.Endianity.{little}
+use Rattle.bytes.specs.declared.error.Error.the-variants.{BadSheet}
+use Rattle.coverage.specs.Ranges.{Range, limit}
+use Rattle.coverage.specs.Kept.{paired, begins, ends, rangesOf, lawfulFrom, lawfulSheet}
+use Rattle.coverage.specs.Written.{littleBytes}
+use Rattle.coverage.specs.declared.Coverage.{Coverage}
+
+-- addresses of a sheet, 8 bytes each
+unfoldable pub addressBytes : List ℕ → List ℕ
+addressBytes [] = []
+addressBytes (a ∷ l) = littleBytes 8 a ++ addressBytes l
+
+-- count and address width in two bytes each, all begins, all ends (document 01, "Sheet")
+unfoldable pub sheetBytes : List Range → List ℕ
+sheetBytes rs = littleBytes 2 (length rs) ++ littleBytes 2 8 ++ addressBytes (begins rs) ++ addressBytes (ends rs)
+
+-- the sheet of a coverage handed in; one that makes no lawful sheet is refused (document 01, "Coverage")
+unfoldable pub sheetKept : Coverage → Result (List ℕ)
+sheetKept c = pick (lawfulSheet c) (gives (sheetBytes (rangesOf c))) (refusing BadSheet)
+
+-- n addresses from the front of bytes
+unfoldable pub addressesIn : ℕ → List ℕ → List ℕ
+addressesIn zero bs = []
+addressesIn (suc n) bs = little (take 8 bs) ∷ addressesIn n (drop 8 bs)
+
+-- the count and the address width that bytes begin with (document 01, "Sheet")
+abbrev pub countIn : List ℕ → ℕ
+countIn bs = little (take 2 bs)
+
+abbrev pub widthIn : List ℕ → ℕ
+widthIn bs = little (take 2 (drop 2 bs))
+
+-- the ranges of a sheet that counts n
+abbrev pub rangesIn : ℕ → List ℕ → List Range
+rangesIn n bs = paired (addressesIn n (drop 4 bs)) (addressesIn n (drop (4 + 8 * n) bs))
+
+-- whether bytes are a sheet that counts n: its count, width and length, and its ranges (document 01, refusal 12)
+unfoldable pub isSheet : ℕ → List ℕ → Bool
+isSheet n bs = leb n limit && eqb (widthIn bs) 8 && eqb (length bs) (4 + 16 * n) && lawfulFrom 0 (rangesIn n bs)
+
+-- the ranges of a sheet; what is no sheet is refused (document 01, refusal 12)
+unfoldable pub sheetRanges : List ℕ → Result (List Range)
+sheetRanges bs = pick (isSheet (countIn bs) bs) (gives (rangesIn (countIn bs) bs)) (refusing BadSheet)

@@ -1,0 +1,282 @@
+// The ranges of a list gathered, and the coverage that they make.
+use super::Coverage;
+use super::LIMIT;
+use super::Made;
+use super::Verdict;
+use bytes::common::DebugAddrBase;
+use bytes::common::Encoding;
+use bytes::common::Format;
+use bytes::common::LocationListsOffset;
+use bytes::common::RangeListsOffset;
+use bytes::endianity::RunTimeEndian;
+use bytes::error::Error;
+use lists::Opened;
+use lists::Range;
+use lists::Walk;
+use lists::loclists::LocAnswer;
+use lists::rnglists::RngAnswer;
+ghost use mathlib.Core.Path.{_≡_};
+ghost use mathlib.Core.Bool.{true};
+ghost use Prim.Native.Nat.{_≤_};
+ghost use lib.ListN.{length, take};
+ghost use mathlib.Core.List.{[]};
+ghost use Rattle.bytes.specs.Error.{refusing};
+ghost use Rattle.bytes.specs.Reader.{isSize};
+ghost use Rattle.bytes.specs.declared.common.Format.the-variants.{Dwarf32};
+ghost use Rattle.lists.specs.Convert.{tableAt};
+ghost use Rattle.lists.specs.Walk.{trace, ranges, locations};
+ghost use Rattle.coverage.specs.Ranges.{limit, runs};
+ghost use Rattle.coverage.specs.Covered.{mapped, yieldedIn, rangeList, locationList, source, coverageOf};
+ghost use Rattle.coverage.specs.Kept.{padded, keptAs};
+ghost use Rattle.coverage.specs.Told.{made, toldMade};
+ghost use Rattle.coverage.specs.Canonical.{readBack};
+ghost use Rattle.coverage.specs.Sorted.{Sized, first};
+ghost use Rattle.coverage.specs.Gathered.{Stored, toldCollected, Few, RunsApart, Gathered};
+
+// How many ranges were gathered.
+pub enum Collected {
+    Got(usize),
+    Refused(Error),
+}
+
+// A range stored behind n others, if there is room for it.
+fn store(range: Range, n: usize, begins: &mut [u64; LIMIT], ends: &mut [u64; LIMIT]) -> bool
+    requires { ⌜ Sized (now begins) (now ends) ⌝ }
+    ensures { λ r. ⌜ Stored r (range .begin, range .end) n (now (begins .entry)) (now (ends .entry)) (now (begins .exit)) (now (ends .exit)) ⌝ }
+{
+    if LIMIT <= n {
+        return false;
+    }
+    begins[n] = range.begin;
+    ends[n] = range.end;
+    true
+}
+
+// The ranges that a range list yields, at the front of the two arrays: 10 at the first without room, or the walk's first
+// refusal, whichever comes first.
+fn collect_ranges(
+    section: &[u8],
+    debug_addr: &[u8],
+    debug_addr_base: DebugAddrBase,
+    start: Walk,
+    encoding: Encoding,
+    endian: RunTimeEndian,
+    begins: &mut [u64; LIMIT],
+    ends: &mut [u64; LIMIT],
+) -> Collected
+    requires { ⌜ isSize (encoding .«address_size») ≡ true ⌝ }
+    requires { ⌜ Sized (now begins) (now ends) ⌝ }
+    ensures { λ r. ⌜ Gathered (yieldedIn limit (trace (ranges encoding endian (now (section .entry))) (tableAt endian encoding «debug_addr_base» (now («debug_addr» .entry))) (encoding .«address_size») (length (now (section .entry))) start)) r (now (begins .exit)) (now (ends .exit)) ⌝ }
+{
+    let mut walk = start;
+    let mut n: usize = 0;
+    loop {
+        match lists::rnglists::next(section, debug_addr, debug_addr_base, walk, encoding, endian) {
+            RngAnswer::Range(range, after) => {
+                if store(range, n, begins, ends) {
+                    n += 1;
+                    walk = after;
+                } else {
+                    return Collected::Refused(Error::TooManyRanges);
+                }
+            }
+            RngAnswer::End(_) => {
+                return Collected::Got(n);
+            }
+            RngAnswer::Refused(e, _) => {
+                return Collected::Refused(e);
+            }
+        }
+    }
+}
+
+// The same of a location list, plain or split.
+fn collect_locations(
+    section: &[u8],
+    debug_addr: &[u8],
+    debug_addr_base: DebugAddrBase,
+    start: Walk,
+    encoding: Encoding,
+    endian: RunTimeEndian,
+    split: bool,
+    begins: &mut [u64; LIMIT],
+    ends: &mut [u64; LIMIT],
+) -> Collected
+    requires { ⌜ isSize (encoding .«address_size») ≡ true ⌝ }
+    requires { ⌜ Sized (now begins) (now ends) ⌝ }
+    ensures { λ r. ⌜ Gathered (yieldedIn limit (trace (locations split encoding endian (now (section .entry))) (tableAt endian encoding «debug_addr_base» (now («debug_addr» .entry))) (encoding .«address_size») (length (now (section .entry))) start)) r (now (begins .exit)) (now (ends .exit)) ⌝ }
+{
+    let mut walk = start;
+    let mut n: usize = 0;
+    loop {
+        match lists::loclists::next(
+            section,
+            debug_addr,
+            debug_addr_base,
+            walk,
+            encoding,
+            endian,
+            split,
+        ) {
+            LocAnswer::Location(location, after) => {
+                let range = location.range;
+                if store(range, n, begins, ends) {
+                    n += 1;
+                    walk = after;
+                } else {
+                    return Collected::Refused(Error::TooManyRanges);
+                }
+            }
+            LocAnswer::End(_) => {
+                return Collected::Got(n);
+            }
+            LocAnswer::Refused(e, _) => {
+                return Collected::Refused(e);
+            }
+        }
+    }
+}
+
+// The places from n on, set to 0.
+fn clear(a: &mut [u64; LIMIT], n: usize)
+    requires { ⌜ length (now a) ≡ limit ⌝ }
+    ensures { λ _. ⌜ now (a .exit) ≡ padded (take n (now (a .entry))) ⌝ }
+{
+    let mut i = n;
+    while i < LIMIT {
+        a[i] = 0;
+        i += 1;
+    }
+}
+
+// The coverage of the first n places, 0 past them.
+fn finish(begins: &mut [u64; LIMIT], ends: &mut [u64; LIMIT], n: usize) -> Coverage
+    requires { ⌜ (n ≤ limit) × Sized (now begins) (now ends) ⌝ }
+    ensures { λ r. ⌜ r ≡ keptAs (first n (now (begins .entry)) (now (ends .entry))) ⌝ }
+{
+    clear(begins, n);
+    clear(ends, n);
+    Coverage {
+        n,
+        begins: *begins,
+        ends: *ends,
+    }
+}
+
+// A refusal keeps nothing.
+fn refused(e: Error) -> Made
+    ensures { λ r. ⌜ toldMade r ≡ made (refusing e) ⌝ }
+{
+    Made {
+        verdict: Verdict::Refused(e),
+        coverage: Coverage {
+            n: 0,
+            begins: [0u64; LIMIT],
+            ends: [0u64; LIMIT],
+        },
+    }
+}
+
+// The coverage of the ranges gathered: their runs.
+fn covered(collected: Collected, begins: &mut [u64; LIMIT], ends: &mut [u64; LIMIT]) -> Made
+    requires { ⌜ Few collected × Sized (now begins) (now ends) × RunsApart (toldCollected collected (now begins) (now ends)) ⌝ }
+    ensures { λ r. ⌜ toldMade r ≡ made (mapped runs (toldCollected collected (now (begins .entry)) (now (ends .entry)))) ⌝ }
+{
+    match collected {
+        Collected::Refused(e) => refused(e),
+        Collected::Got(n) => {
+            let r = super::sort::to_runs(begins, ends, n);
+            let coverage = finish(begins, ends, r);
+            Made {
+                verdict: Verdict::Made,
+                coverage,
+            }
+        }
+    }
+}
+
+// The coverage of the range list at an offset: the refusals of opening, then the first of a walk's refusal and 10.
+pub fn range_coverage(
+    section: &[u8],
+    debug_addr: &[u8],
+    debug_addr_base: DebugAddrBase,
+    offset: RangeListsOffset,
+    base_address: u64,
+    encoding: Encoding,
+    endian: RunTimeEndian,
+) -> Made
+    ensures { λ r. ⌜ toldMade r ≡ made (coverageOf (source rangeList encoding endian (now (section .entry)) (offset .0) «base_address» (now («debug_addr» .entry)) «debug_addr_base»)) ⌝ }
+{
+    match lists::rnglists::ranges(section, offset, encoding, base_address) {
+        Opened::Refused(e) => refused(e),
+        Opened::List(start) => {
+            let mut begins = [0u64; LIMIT];
+            let mut ends = [0u64; LIMIT];
+            let collected = collect_ranges(
+                section,
+                debug_addr,
+                debug_addr_base,
+                start,
+                encoding,
+                endian,
+                &mut begins,
+                &mut ends,
+            );
+            covered(collected, &mut begins, &mut ends)
+        }
+    }
+}
+
+// The coverage of the location list at an offset, plain or split: the refusals of opening, then the first of a walk's refusal
+// and 10.
+pub fn location_coverage(
+    section: &[u8],
+    debug_addr: &[u8],
+    debug_addr_base: DebugAddrBase,
+    offset: LocationListsOffset,
+    base_address: u64,
+    encoding: Encoding,
+    endian: RunTimeEndian,
+    split: bool,
+) -> Made
+    ensures { λ r. ⌜ toldMade r ≡ made (coverageOf (source (locationList split) encoding endian (now (section .entry)) (offset .0) «base_address» (now («debug_addr» .entry)) «debug_addr_base»)) ⌝ }
+{
+    match lists::loclists::locations(section, offset, encoding, base_address) {
+        Opened::Refused(e) => refused(e),
+        Opened::List(start) => {
+            let mut begins = [0u64; LIMIT];
+            let mut ends = [0u64; LIMIT];
+            let collected = collect_locations(
+                section,
+                debug_addr,
+                debug_addr_base,
+                start,
+                encoding,
+                endian,
+                split,
+                &mut begins,
+                &mut ends,
+            );
+            covered(collected, &mut begins, &mut ends)
+        }
+    }
+}
+
+// The coverage that a canonical list tells, read back as a section of its own.
+pub fn from_canonical(bytes: &[u8]) -> Made
+    ensures { λ r. ⌜ toldMade r ≡ made (coverageOf (readBack Dwarf32 (now (bytes .entry)) 0 [] (record { 0 = 0 }))) ⌝ }
+{
+    range_coverage(
+        bytes,
+        &bytes[..0],
+        DebugAddrBase(0),
+        RangeListsOffset(0),
+        0,
+        Encoding {
+            address_size: 8,
+            format: Format::Dwarf32,
+            version: 5,
+        },
+        RunTimeEndian::Little,
+    )
+}

@@ -1,0 +1,129 @@
+-- The answers of the two calls over sheets, case by case. Assumes nothing.
+use mathlib.Core.Path.{_≡_, sym, ap, ap₂, _∙_}
+use mathlib.Core.Bool.{true, false, _&&_, and-false}
+use mathlib.Core.List.{List}
+use Prim.Native.Nat.{ℕ, _+_, _*_, _≤_, _<_}
+use native.Mathlib.Omega.{arith}
+use lib.Dec.{leb, eqb}
+use lib.ListN.{length, take, drop}
+use lib.Seq.{sets, take-at}
+use borrow.Author.Tests.{le-leb, lt-leb, eq-eqb, ne-eqb}
+use Rattle.bytes.specs.Read.{gives}
+use Rattle.bytes.specs.Error.{number, values, refusing}
+use Rattle.bytes.specs.declared.error.Error.the-variants.{NoSpace, BadSheet}
+use Rattle.coverage.specs.Ranges.{limit}
+use Rattle.coverage.specs.Kept.{paired, begins, ends, rangesOf, padded, keptAs, lawfulFrom, lawfulSheet}
+use Rattle.coverage.specs.Sheet.{sheetBytes, sheetKept, addressesIn, countIn, widthIn, rangesIn, isSheet, sheetRanges}
+use Rattle.coverage.specs.Output.{output, written}
+use Rattle.coverage.specs.Told.{answer, made}
+use Rattle.coverage.specs.declared.Coverage.{Coverage}
+use Rattle.coverage.proofs.Checked.{lawful-few}
+use Rattle.coverage.proofs.KeptLaws.{length-paired, begins-paired, ends-paired, sheet-test}
+use Rattle.coverage.proofs.SheetLaws.{sheet-kept, no-sheet-kept}
+use Rattle.coverage.proofs.OutputLaws.{written-refused, written-short}
+use Rattle.coverage.proofs.PutLaws.{all-written}
+use Rattle.sheets.proofs.Putting.{take-paired, sheet-length}
+use Rattle.sheets.proofs.Getting.{length-in}
+
+-- what the sheet call writes is the sheet of the coverage handed in, or it is refused
+module _ (c : Coverage) (l : List ℕ) where
+  pub sheet-refused : lawfulSheet c ≡ false → output (refusing BadSheet) l ≡ written (sheetKept c) l
+  sheet-refused e = rw (no-sheet-kept c e) (sym (written-refused (number BadSheet) (values BadSheet) l))
+
+  module _ (law : lawfulSheet c ≡ true) (lb : length (c .begins) ≡ limit) (le : length (c .ends) ≡ limit) where
+    pub sheet-short : length l < 4 + 16 * c .n → output (refusing NoSpace) l ≡ written (sheetKept c) l
+    unfolding rangesOf
+    sheet-short h =
+        let e = sheet-length (c .begins) (c .ends) (c .n) (lawful-few c law) lb le in
+        rw (sheet-kept c law) (sym (written-short (sheetBytes (take (c .n) (paired (c .begins) (c .ends)))) l (omega arith)))
+
+    pub sheet-written : {m : List ℕ} → 4 + 16 * c .n ≤ length l → m ≡ sets l 0 (sheetBytes (take (c .n) (paired (c .begins) (c .ends))))
+        → output (gives (4 + 16 * c .n)) m ≡ written (sheetKept c) l
+    unfolding rangesOf
+    sheet-written h q =
+        let e = sheet-length (c .begins) (c .ends) (c .n) (lawful-few c law) lb le in
+        rw (sheet-kept c law) (all-written (sheetBytes (take (c .n) (paired (c .begins) (c .ends)))) l (sym e) h q)
+
+-- what is no sheet is refused
+module _ (bs : List ℕ) where
+  refused-by : isSheet (countIn bs) bs ≡ false → refusing BadSheet ≡ sheetRanges bs
+  unfolding sheetRanges
+  refused-by e = rw e
+
+  pub no-head : length bs < 4 → refusing BadSheet ≡ sheetRanges bs
+  unfolding isSheet
+  no-head h =
+      refused-by (rw (ne-eqb (length bs) (4 + 16 * countIn bs) (λ e. omega arith), and-false (leb (countIn bs) limit && eqb (widthIn bs) 8)))
+
+  pub other-width : {w : ℕ} → w ≡ widthIn bs → (w ≡ 8 → ⊥) → refusing BadSheet ≡ sheetRanges bs
+  unfolding isSheet
+  other-width width h = refused-by (rw (ne-eqb (widthIn bs) 8 (λ e. h (width ∙ e)), and-false (leb (countIn bs) limit)))
+
+  module _ {n : ℕ} (count : n ≡ countIn bs) where
+    pub too-many : limit < n → refusing BadSheet ≡ sheetRanges bs
+    unfolding isSheet
+    too-many h = let k : limit < countIn bs = omega arith in refused-by (rw (lt-leb (countIn bs) limit k))
+
+    pub other-length : (length bs ≡ 4 + 16 * n → ⊥) → refusing BadSheet ≡ sheetRanges bs
+    unfolding isSheet
+    other-length h =
+        let k : length bs ≡ 4 + 16 * countIn bs → ⊥ = λ e. h (rw count e) in
+        refused-by (rw (ne-eqb (length bs) (4 + 16 * countIn bs) k, and-false (leb (countIn bs) limit && eqb (widthIn bs) 8)))
+
+abbrev pub arrays : ℕ → List ℕ → List ℕ → Coverage
+arrays n begins ends = record { n = n; begins = begins; ends = ends }
+
+-- the coverage read from bytes that count n
+abbrev readAs : ℕ → List ℕ → Coverage
+readAs n bs = arrays n (padded (addressesIn n (drop 4 bs))) (padded (addressesIn n (drop (4 + 8 * n) bs)))
+
+take-padded : (n : ℕ) (bs : List ℕ) → take n (padded (addressesIn n bs)) ≡ addressesIn n bs
+unfolding padded
+take-padded n bs = take-at (addressesIn n bs) _ n (length-in n bs)
+
+read-ranges : (n : ℕ) (bs : List ℕ) → rangesOf (readAs n bs) ≡ rangesIn n bs
+unfolding rangesOf
+read-ranges n bs =
+    take-paired n (padded (addressesIn n (drop 4 bs))) (padded (addressesIn n (drop (4 + 8 * n) bs)))
+    ∙ ap₂ paired (take-padded n (drop 4 bs)) (take-padded n (drop (4 + 8 * n) bs))
+
+read-kept : (n : ℕ) (bs : List ℕ) → readAs n bs ≡ keptAs (rangesIn n bs)
+unfolding keptAs
+read-kept n bs =
+    let b = addressesIn n (drop 4 bs) in
+    let e = addressesIn n (drop (4 + 8 * n) bs) in
+    let k : length b ≡ length e = length-in n (drop 4 bs) ∙ sym (length-in n (drop (4 + 8 * n) bs)) in
+    rw (length-paired b e k, begins-paired b e k, ends-paired b e k, length-in n (drop 4 bs))
+
+module _ (bs : List ℕ) (few : countIn bs ≤ limit) (wide : widthIn bs ≡ 8) (long : length bs ≡ 4 + 16 * countIn bs) where
+  head-read : isSheet (countIn bs) bs ≡ lawfulSheet (readAs (countIn bs) bs)
+  unfolding isSheet
+  head-read =
+      rw (le-leb (countIn bs) limit few, eq-eqb (widthIn bs) 8 wide, eq-eqb (length bs) (4 + 16 * countIn bs) long)
+      (sym (sheet-test (readAs (countIn bs) bs) few ∙ ap (lawfulFrom 0) (read-ranges (countIn bs) bs)))
+
+-- bytes with a sheet's head and length, and the arrays read from them
+pub record Headed (bs : List ℕ) (n : ℕ) (b e : List ℕ) : Type 0 where
+  pub count : n ≡ countIn bs
+  pub few : n ≤ limit
+  pub wide : widthIn bs ≡ 8
+  pub long : length bs ≡ 4 + 16 * n
+  pub begins : b ≡ padded (addressesIn n (drop 4 bs))
+  pub ends : e ≡ padded (addressesIn n (drop (4 + 8 * n) bs))
+
+-- the ranges read decide
+module _ {bs : List ℕ} {n : ℕ} {b e : List ℕ} (t : Headed bs n b e) where
+  same-read : arrays n b e ≡ readAs (countIn bs) bs
+  same-read = rw (t .begins, t .ends, t .count)
+
+  decides : isSheet (countIn bs) bs ≡ lawfulSheet (arrays n b e)
+  decides =
+      head-read bs (omega (arith, t .count, t .few)) (t .wide) (t .long ∙ ap (λ (k : ℕ). 4 + 16 * k) (t .count))
+      ∙ ap lawfulSheet (sym same-read)
+
+  pub not-lawful : lawfulSheet (arrays n b e) ≡ false → refusing BadSheet ≡ sheetRanges bs
+  not-lawful h = refused-by bs (decides ∙ h)
+
+  pub read-back : lawfulSheet (arrays n b e) ≡ true → answer (gives tt) (arrays n b e) ≡ made (sheetRanges bs)
+  unfolding sheetRanges
+  read-back h = rw (decides ∙ h) (ap (answer (gives tt)) (same-read ∙ read-kept (countIn bs) bs))

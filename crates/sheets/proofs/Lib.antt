@@ -1,0 +1,4 @@
+pub mod Putting
+pub mod Reading
+pub mod Getting
+pub mod Answers
