@@ -75,3 +75,19 @@ pub demand-3-coverage : (c : Coverage) {out bs : List ℕ} → ((i : ℕ) → ge
 demand-3-coverage c h p =
     let r = kept-ranges c (writes-given p) in
     rw (← r .1) (lawful-back (Covers (rangesOf c)) (sheet-lawful c h (r .0)) (λ a. (λ k. k, λ k. k)))
+
+-- demand 3, whole: over lists, as document 01 says what a list is, and over coverages handed in; from the bytes lent to the bytes
+-- that the canonical calls write, whose contracts say that they leave `written (canonicalOf ..)` and `written (canonicalKept ..)`
+pub record Demand3 : Type 0 where
+  -- canonical bytes are equal exactly where the same addresses are covered
+  pub same : (x y : Source) {out out' bs cs : List ℕ} → Bytes x → Bytes y → Writes (canonicalOf x) out bs → Writes (canonicalOf y) out' cs
+      → (bs ≡ cs) ↔ ((a : ℕ) → CoveredBy x a ↔ CoveredBy y a)
+  -- the canonical list, walked with any base address and any address table, ends unrefused, covers exactly its source's
+  -- addresses, and is its own canonical list
+  pub list : (x : Source) {out bs : List ℕ} → Bytes x → Writes (canonicalOf x) out bs → ReadsBack bs (CoveredBy x)
+  -- so it does where its source is a coverage that makes a lawful sheet
+  pub coverage : (c : Coverage) {out bs : List ℕ} → ((i : ℕ) → getD (c .ends) i 0 < 2 ^ 64) → Writes (canonicalKept c) out bs
+      → ReadsBack bs (Covers (rangesOf c))
+
+pub demand-3 : Demand3
+demand-3 = record { same = demand-3-same; list = demand-3-list; coverage = demand-3-coverage }
