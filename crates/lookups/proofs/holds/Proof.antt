@@ -1,15 +1,12 @@
+-- The two tests of the definition. Assumes nothing.
 use borrow.Author.Tests.{le-leb, lt-leb}
 use mathlib.Core.Bool.{and-false}
 use Rattle.lookups.proofs.holds.Statement.{statement}
 use Rattle.lookups.proofs.holds.Tie as tie
-use Rattle.lookups.proofs.holds.Reads as reads
-use Rattle.lookups.proofs.holds.Lts as lts
 
--- src/lib.rt:36:9
 returns : tie.Need-returns
 returns c = rw (le-leb _ _ (c .before .if1 .taken))
 
--- src/lib.rt:32:1
 returns-2 : tie.Need-returns-2
 returns-2 c = rw (lt-leb _ _ (c .if1 .left))
 

@@ -1,3 +1,4 @@
+-- Opening, then the lookup from there. Assumes nothing.
 use Rattle.lookups.proofs.LookupLaws.{opened-size}
 use Rattle.lookups.specs.Lookup.{fromOpening}
 use Rattle.lists.specs.Open.{toldOpened}
@@ -5,32 +6,22 @@ use mathlib.Core.Path.{sym, ap, _∙_}
 use borrow.Author.Needs.{needs}
 use Rattle.lookups.proofs.lookup_location.Statement.{statement}
 use Rattle.lookups.proofs.lookup_location.Tie as tie
-use Rattle.lookups.proofs.lookup_location.Reads as reads
-use Rattle.lookups.proofs.lookup_location.Lts as lts
-use Rattle.lists.proofs.loclists.locations.Reads as locations-reads
-use Rattle.lookups.proofs.location_from.Reads as location-from-reads
 
--- src/lib.rt:156:11
 locations-requires : tie.Need-locations-requires
 locations-requires c κs = search needs
 
--- src/lib.rt:157:25
 enum-known-e : tie.Need-enum-known-e
 enum-known-e c = search needs
 
--- src/lib.rt:158:22
 enum-known-start : tie.Need-enum-known-start
 enum-known-start c = search needs
 
--- src/lib.rt:158:32
 location-from-requires : tie.Need-location-from-requires
 location-from-requires c κs = opened-size _ _ _ _ (sym (c .before .before .before .locations .ensures) ∙ ap toldOpened (c .before .start .given .1))
 
--- src/lib.rt:143:1
 returns : tie.Need-returns
 returns c = sym (ap (fromOpening _) (sym (c .before .before .before .locations .ensures) ∙ ap toldOpened (c .before .e .given .1)))
 
--- src/lib.rt:143:1
 returns-2 : tie.Need-returns-2
 returns-2 c = c .location-from .ensures ∙ sym (ap (fromOpening _) (sym (c .before .before .before .before .locations .ensures) ∙ ap toldOpened (c .before .before .start .given .1)))
 

@@ -1,3 +1,4 @@
+-- Opening, then the lookup from there. Assumes nothing.
 use Rattle.lookups.proofs.LookupLaws.{opened-size}
 use Rattle.lookups.specs.Lookup.{fromOpening}
 use Rattle.lists.specs.Open.{toldOpened}
@@ -5,32 +6,22 @@ use mathlib.Core.Path.{sym, ap, _∙_}
 use borrow.Author.Needs.{needs}
 use Rattle.lookups.proofs.lookup_range.Statement.{statement}
 use Rattle.lookups.proofs.lookup_range.Tie as tie
-use Rattle.lookups.proofs.lookup_range.Reads as reads
-use Rattle.lookups.proofs.lookup_range.Lts as lts
-use Rattle.lists.proofs.rnglists.ranges.Reads as ranges-reads
-use Rattle.lookups.proofs.range_from.Reads as range-from-reads
 
--- src/lib.rt:86:11
 ranges-requires : tie.Need-ranges-requires
 ranges-requires c κs = search needs
 
--- src/lib.rt:87:25
 enum-known-e : tie.Need-enum-known-e
 enum-known-e c = search needs
 
--- src/lib.rt:88:22
 enum-known-start : tie.Need-enum-known-start
 enum-known-start c = search needs
 
--- src/lib.rt:88:32
 range-from-requires : tie.Need-range-from-requires
 range-from-requires c κs = opened-size _ _ _ _ (sym (c .before .before .before .ranges .ensures) ∙ ap toldOpened (c .before .start .given .1))
 
--- src/lib.rt:74:1
 returns : tie.Need-returns
 returns c = sym (ap (fromOpening _) (sym (c .before .before .before .ranges .ensures) ∙ ap toldOpened (c .before .e .given .1)))
 
--- src/lib.rt:74:1
 returns-2 : tie.Need-returns-2
 returns-2 c = c .range-from .ensures ∙ sym (ap (fromOpening _) (sym (c .before .before .before .before .ranges .ensures) ∙ ap toldOpened (c .before .before .start .given .1)))
 

@@ -1,40 +1,29 @@
+-- The verdict says whether the ranges are given. Assumes nothing.
 use Rattle.coverage.specs.Sheet.{sheetRanges}
 use Rattle.show.proofs.ShowLaws.{made-given, refused-not-given}
 use borrow.Author.Needs.{needs}
 use Rattle.show.proofs.show.Statement.{statement}
 use Rattle.show.proofs.show.Tie as tie
-use Rattle.show.proofs.show.Reads as reads
-use Rattle.show.proofs.show.Lts as lts
-use Rattle.sheets.proofs.from_sheet.Reads as from-sheet-reads
-use Rattle.show.proofs.print_coverage.Reads as print-coverage-reads
-use Rattle.show.proofs.print_refusal.Reads as print-refusal-reads
 
--- src/lib.rt:45:9
 from-sheet-requires : tie.Need-from-sheet-requires
 from-sheet-requires c κs = search needs
 
--- src/lib.rt:48:26
 enum-known-verdict : tie.Need-enum-known-verdict
 enum-known-verdict c = search needs
 
--- src/lib.rt:49:13
 print-refusal-requires : tie.Need-print-refusal-requires
 print-refusal-requires c κs = search needs
 
--- src/lib.rt:53:17
 enum-told : tie.Need-enum-told
 enum-told c = search needs
 
--- src/lib.rt:54:13
 print-coverage-requires : tie.Need-print-coverage-requires
 print-coverage-requires c κs = search needs
 
--- src/lib.rt:42:1
 returns : tie.Need-returns
 returns c = let g = c .before .before .before .before in
     refused-not-given (g .from-sheet .result) (sheetRanges (g .before .before .args .sheet .now)) (g .from-sheet .ensures) (c .before .before .verdict .given .1)
 
--- src/lib.rt:42:1
 returns-2 : tie.Need-returns-2
 returns-2 c = let g = c .before .before .before .before in
     made-given (g .from-sheet .result) (sheetRanges (g .before .before .args .sheet .now)) (g .from-sheet .ensures) (c .before .before .enum-told .given .1)

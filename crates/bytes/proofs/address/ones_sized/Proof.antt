@@ -1,32 +1,25 @@
+-- All bits, none, or a shift: the low bits of all ones. Assumes nothing.
 use Rattle.bytes.proofs.AddressLaws.{ones-wide, ones-shifted}
 use native.Mathlib.Omega.{arith}
 use borrow.Author.Needs.{needs}
 use Rattle.bytes.proofs.address.ones_sized.Statement.{statement}
 use Rattle.bytes.proofs.address.ones_sized.Tie as tie
-use Rattle.bytes.proofs.address.ones_sized.Reads as reads
-use Rattle.bytes.proofs.address.ones_sized.Lts as lts
 
--- src/address.rt:10:9
 returns : tie.Need-returns
 returns c = ones-wide (c .before .args .size) (omega arith)
 
--- src/address.rt:13:9
 returns-2 : tie.Need-returns-2
 returns-2 c = rw (c .if2 .taken)
 
--- src/address.rt:15:23
 mul-result : tie.Need-mul-result
 mul-result c = search needs
 
--- src/address.rt:15:18
 sub-result : tie.Need-sub-result
 sub-result c = search needs
 
--- src/address.rt:15:5
 shr-result : tie.Need-shr-result
 shr-result c = search needs
 
--- src/address.rt:6:1
 returns-3 : tie.Need-returns-3
 returns-3 c = ones-shifted (c .before .before .args .size) (omega arith)
 

@@ -1,23 +1,17 @@
+-- The mask keeps the low bits: `masked`. Assumes nothing.
 use Prim.Native.Nat.{_+_, _%_, _^_}
 use Rattle.bytes.proofs.AddressLaws.{masked}
 use native.Mathlib.Omega.{arith}
 use borrow.Author.Needs.{needs}
 use Rattle.bytes.proofs.address.wrapping_add_sized.Statement.{statement}
 use Rattle.bytes.proofs.address.wrapping_add_sized.Tie as tie
-use Rattle.bytes.proofs.address.wrapping_add_sized.Reads as reads
-use Rattle.bytes.proofs.address.wrapping_add_sized.Lts as lts
-use Rattle.bytes.proofs.address.ones_sized.Reads as ones-sized-reads
-use Rattle.std.proofs.num.wrapping_add_u64.Reads as wrapping-add-u64-reads
 
--- src/address.rt:22:5
 wrapping-add-u64-requires : tie.Need-wrapping-add-u64-requires
 wrapping-add-u64-requires c κs = search needs
 
--- src/address.rt:22:51
 ones-sized-requires : tie.Need-ones-sized-requires
 ones-sized-requires c κs = search needs
 
--- src/address.rt:19:1
 returns : tie.Need-returns
 returns c = let a = c .before .before .args in
     rw (c .ones-sized .ensures, c .before .wrapping-add-u64 .ensures) (masked (a .size) ((a .address + a .length) % 2 ^ 64) (omega arith))

@@ -1,21 +1,16 @@
+-- One byte is its own value. Assumes nothing.
 use Rattle.bytes.proofs.Values.{loaded-byte}
 use native.Mathlib.Omega.{arith}
 use borrow.Author.Needs.{needs}
 use Rattle.bytes.proofs.endianity.le1.Statement.{statement}
 use Rattle.bytes.proofs.endianity.le1.Tie as tie
-use Rattle.bytes.proofs.endianity.le1.Reads as reads
-use Rattle.bytes.proofs.endianity.le1.Lts as lts
-use Rattle.bytes.proofs.endianity.wide.Reads as wide-reads
 
--- src/endianity.rt:25:10
 shared-slice-read-wide : tie.Need-shared-slice-read-wide
 shared-slice-read-wide c = search needs
 
--- src/endianity.rt:25:5
 wide-requires : tie.Need-wide-requires
 wide-requires c κs = search needs
 
--- src/endianity.rt:21:1
 returns : tie.Need-returns
 returns c = let a = c .before .before .before .args in
     rw (c .wide .ensures .0) (loaded-byte (a .s .now) (a .at) (omega arith) (omega (arith, c .before .shared-slice-known2 .given (a .at))))

@@ -1,32 +1,24 @@
+-- Two bytes side by side: `loaded-pair`. Assumes nothing.
 use Rattle.bytes.proofs.Values.{loaded-pair}
 use borrow.Author.Needs.{needs}
 use Rattle.bytes.proofs.endianity.le2.Statement.{statement}
 use Rattle.bytes.proofs.endianity.le2.Tie as tie
-use Rattle.bytes.proofs.endianity.le2.Reads as reads
-use Rattle.bytes.proofs.endianity.le2.Lts as lts
-use Rattle.bytes.proofs.endianity.le1.Reads as le1-reads
 
--- src/endianity.rt:32:5
 le1-requires : tie.Need-le1-requires
 le1-requires c κs = search needs
 
--- src/endianity.rt:32:25
 add-le1 : tie.Need-add-le1
 add-le1 c = search needs
 
--- src/endianity.rt:32:18
 le1-requires-2 : tie.Need-le1-requires-2
 le1-requires-2 c κs = search needs
 
--- src/endianity.rt:32:18
 mul-result : tie.Need-mul-result
 mul-result c = search needs
 
--- src/endianity.rt:32:5
 add-result : tie.Need-add-result
 add-result c = search needs
 
--- src/endianity.rt:28:1
 returns : tie.Need-returns
 returns c = let a = c .before .before .before .args in
     loaded-pair (a .s .now) (a .at) 1 0 (c .before .le1 .ensures) (c .le12 .ensures)

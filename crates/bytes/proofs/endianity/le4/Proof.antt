@@ -1,32 +1,24 @@
+-- Two halves side by side: `loaded-pair`. Assumes nothing.
 use Rattle.bytes.proofs.Values.{loaded-pair}
 use borrow.Author.Needs.{needs}
 use Rattle.bytes.proofs.endianity.le4.Statement.{statement}
 use Rattle.bytes.proofs.endianity.le4.Tie as tie
-use Rattle.bytes.proofs.endianity.le4.Reads as reads
-use Rattle.bytes.proofs.endianity.le4.Lts as lts
-use Rattle.bytes.proofs.endianity.le2.Reads as le2-reads
 
--- src/endianity.rt:39:5
 le2-requires : tie.Need-le2-requires
 le2-requires c κs = search needs
 
--- src/endianity.rt:39:25
 add-le2 : tie.Need-add-le2
 add-le2 c = search needs
 
--- src/endianity.rt:39:18
 le2-requires-2 : tie.Need-le2-requires-2
 le2-requires-2 c κs = search needs
 
--- src/endianity.rt:39:18
 mul-result : tie.Need-mul-result
 mul-result c = search needs
 
--- src/endianity.rt:39:5
 add-result : tie.Need-add-result
 add-result c = search needs
 
--- src/endianity.rt:35:1
 returns : tie.Need-returns
 returns c = let a = c .before .before .before .args in
     loaded-pair (a .s .now) (a .at) 2 1 (c .before .le2 .ensures) (c .le22 .ensures)

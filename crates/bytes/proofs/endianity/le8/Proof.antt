@@ -1,32 +1,24 @@
+-- Two halves side by side: `loaded-pair`. Assumes nothing.
 use Rattle.bytes.proofs.Values.{loaded-pair}
 use borrow.Author.Needs.{needs}
 use Rattle.bytes.proofs.endianity.le8.Statement.{statement}
 use Rattle.bytes.proofs.endianity.le8.Tie as tie
-use Rattle.bytes.proofs.endianity.le8.Reads as reads
-use Rattle.bytes.proofs.endianity.le8.Lts as lts
-use Rattle.bytes.proofs.endianity.le4.Reads as le4-reads
 
--- src/endianity.rt:46:5
 le4-requires : tie.Need-le4-requires
 le4-requires c κs = search needs
 
--- src/endianity.rt:46:25
 add-le4 : tie.Need-add-le4
 add-le4 c = search needs
 
--- src/endianity.rt:46:18
 le4-requires-2 : tie.Need-le4-requires-2
 le4-requires-2 c κs = search needs
 
--- src/endianity.rt:46:18
 mul-result : tie.Need-mul-result
 mul-result c = search needs
 
--- src/endianity.rt:46:5
 add-result : tie.Need-add-result
 add-result c = search needs
 
--- src/endianity.rt:42:1
 returns : tie.Need-returns
 returns c = let a = c .before .before .before .args in
     loaded-pair (a .s .now) (a .at) 4 2 (c .before .le4 .ensures) (c .le42 .ensures)

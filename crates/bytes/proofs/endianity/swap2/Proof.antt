@@ -1,21 +1,17 @@
+-- The definition of `swap`, computed. Assumes nothing.
 use Rattle.bytes.specs.Swap.{swap}
 use mathlib.Core.Path.{refl}
 use native.Mathlib.Omega.{arith}
 use borrow.Author.Needs.{needs}
 use Rattle.bytes.proofs.endianity.swap2.Statement.{statement}
 use Rattle.bytes.proofs.endianity.swap2.Tie as tie
-use Rattle.bytes.proofs.endianity.swap2.Reads as reads
-use Rattle.bytes.proofs.endianity.swap2.Lts as lts
 
--- src/endianity.rt:54:5
 mul-result : tie.Need-mul-result
 mul-result c = search needs
 
--- src/endianity.rt:54:5
 add-result : tie.Need-add-result
 add-result c = search needs
 
--- src/endianity.rt:50:1
 returns : tie.Need-returns
 unfolding swap
 returns c = (refl, omega arith)

@@ -1,23 +1,18 @@
+-- The sizes one by one. Assumes nothing.
 use Rattle.bytes.proofs.ReaderLaws.{is-1, is-2, is-4, is-8}
 use native.Mathlib.Omega.{arith}
 use Rattle.bytes.proofs.reader.is_address_size.Statement.{statement}
 use Rattle.bytes.proofs.reader.is_address_size.Tie as tie
-use Rattle.bytes.proofs.reader.is_address_size.Reads as reads
-use Rattle.bytes.proofs.reader.is_address_size.Lts as lts
 
--- src/reader.rt:77:9
 returns : tie.Need-returns
 returns c = is-1 _ (omega arith)
 
--- src/reader.rt:80:9
 returns-2 : tie.Need-returns-2
 returns-2 c = is-2 _ (omega arith)
 
--- src/reader.rt:83:9
 returns-3 : tie.Need-returns-3
 returns-3 c = is-4 _ (omega arith)
 
--- src/reader.rt:73:1
 returns-4 : tie.Need-returns-4
 returns-4 c = is-8 _ (λ e. omega arith) (λ e. omega arith) (λ e. omega arith)
 

@@ -1,3 +1,4 @@
+-- The tests are those of the definition. Assumes nothing.
 use Rattle.bytes.proofs.ReaderLaws.{part-inside, part-outside}
 use Prim.Native.Nat.{_+_, _-_, _≤_}
 use mathlib.Core.Path.{sym, _≡_}
@@ -5,42 +6,31 @@ use native.Mathlib.Omega.{arith}
 use borrow.Author.Needs.{needs}
 use Rattle.bytes.proofs.reader.part.Statement.{statement}
 use Rattle.bytes.proofs.reader.part.Tie as tie
-use Rattle.bytes.proofs.reader.part.Reads as reads
-use Rattle.bytes.proofs.reader.part.Lts as lts
 
--- src/reader.rt:62:9
 slice-aggregate-result : tie.Need-slice-aggregate-result
 slice-aggregate-result c = search needs
 
--- src/reader.rt:62:9
 returns : tie.Need-returns
 returns c = sym (part-outside _ _ _ (omega arith))
 
--- src/reader.rt:65:9
 slice-aggregate-result-2 : tie.Need-slice-aggregate-result-2
 slice-aggregate-result-2 c = search needs
 
--- src/reader.rt:65:9
 returns-2 : tie.Need-returns-2
 returns-2 c = sym (part-outside _ _ _ (omega arith))
 
--- src/reader.rt:67:15
 add-end : tie.Need-add-end
 add-end c = search needs
 
--- src/reader.rt:68:5
 sub-result : tie.Need-sub-result
 sub-result c = search needs
 
--- src/reader.rt:68:5
 part-result-start : tie.Need-part-result-start
 part-result-start c = search needs
 
--- src/reader.rt:68:5
 part-result-end : tie.Need-part-result-end
 part-result-end c = search needs
 
--- src/reader.rt:57:1
 returns-3 : tie.Need-returns-3
 returns-3 c = let a = c .before .before .before .args in
     let e : a .offset + a .len - a .offset ≡ a .len = omega arith in

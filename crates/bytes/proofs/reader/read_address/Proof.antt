@@ -1,27 +1,20 @@
+-- The size is tested first; then it is a number of as many bytes. Assumes nothing.
 use Rattle.bytes.proofs.ReaderLaws.{address-size, address-other}
 use mathlib.Core.Path.{sym, _∙_}
 use native.Mathlib.Omega.{arith}
 use borrow.Author.Needs.{needs}
 use Rattle.bytes.proofs.reader.read_address.Statement.{statement}
 use Rattle.bytes.proofs.reader.read_address.Tie as tie
-use Rattle.bytes.proofs.reader.read_address.Reads as reads
-use Rattle.bytes.proofs.reader.read_address.Lts as lts
-use Rattle.bytes.proofs.reader.is_address_size.Reads as is-address-size-reads
-use Rattle.bytes.proofs.reader.read_uint.Reads as read-uint-reads
 
--- src/reader.rt:145:8
 is-address-size-requires : tie.Need-is-address-size-requires
 is-address-size-requires c κs = search needs
 
--- src/reader.rt:146:9
 read-uint-requires : tie.Need-read-uint-requires
 read-uint-requires c κs = sym (c .before .is-address-size .ensures) ∙ c .if1 .taken
 
--- src/reader.rt:146:9
 returns : tie.Need-returns
 returns c = c .read-uint .ensures ∙ sym (address-size _ _ _ _ (sym (c .before .before .is-address-size .ensures) ∙ c .before .if1 .taken))
 
--- src/reader.rt:142:1
 returns-2 : tie.Need-returns-2
 returns-2 c = sym (address-other _ _ _ _ (sym (c .before .is-address-size .ensures) ∙ c .if1 .left))
 

@@ -1,38 +1,28 @@
+-- A byte that is a size, or is refused as one. Assumes nothing.
 use Rattle.bytes.proofs.ReaderLaws.{no-size, size-read, size-refused}
 use mathlib.Core.Path.{sym, _∙_}
 use borrow.Author.Needs.{needs}
 use Rattle.bytes.proofs.reader.read_address_size.Statement.{statement}
 use Rattle.bytes.proofs.reader.read_address_size.Tie as tie
-use Rattle.bytes.proofs.reader.read_address_size.Reads as reads
-use Rattle.bytes.proofs.reader.read_address_size.Lts as lts
-use Rattle.bytes.proofs.reader.is_address_size.Reads as is-address-size-reads
-use Rattle.bytes.proofs.reader.read_u8.Reads as read-u8-reads
 
--- src/reader.rt:129:11
 read-u8-requires : tie.Need-read-u8-requires
 read-u8-requires c κs = search needs
 
--- src/reader.rt:130:22
 enum-known-e : tie.Need-enum-known-e
 enum-known-e c = search needs
 
--- src/reader.rt:131:18
 enum-known-size : tie.Need-enum-known-size
 enum-known-size c = search needs
 
--- src/reader.rt:132:16
 is-address-size-requires : tie.Need-is-address-size-requires
 is-address-size-requires c κs = search needs
 
--- src/reader.rt:133:17
 returns : tie.Need-returns
 returns c = sym (size-read _ _ (c .before .before .before .before .before .read-u8 .ensures) (c .before .before .before .size .given .1) (sym (c .before .is-address-size .ensures) ∙ c .if1 .taken))
 
--- src/reader.rt:126:1
 returns-2 : tie.Need-returns-2
 returns-2 c = sym (no-size _ _ (c .before .before .before .read-u8 .ensures) (c .before .e .given .1))
 
--- src/reader.rt:126:1
 returns-3 : tie.Need-returns-3
 returns-3 c = sym (size-refused _ _ (c .before .before .before .before .before .read-u8 .ensures) (c .before .before .before .size .given .1) (sym (c .before .is-address-size .ensures) ∙ c .if1 .left))
 

@@ -1,18 +1,14 @@
+-- Eight bytes are a size. Assumes nothing.
 use Rattle.bytes.specs.Reader.{isSize}
 use mathlib.Core.Path.{refl}
 use borrow.Author.Needs.{needs}
 use Rattle.bytes.proofs.reader.read_u64.Statement.{statement}
 use Rattle.bytes.proofs.reader.read_u64.Tie as tie
-use Rattle.bytes.proofs.reader.read_u64.Reads as reads
-use Rattle.bytes.proofs.reader.read_u64.Lts as lts
-use Rattle.bytes.proofs.reader.read_uint.Reads as read-uint-reads
 
--- src/reader.rt:124:5
 read-uint-requires : tie.Need-read-uint-requires
 unfolding isSize
 read-uint-requires c κs = refl
 
--- src/reader.rt:121:1
 returns : tie.Need-returns
 returns c = search needs
 

@@ -1,18 +1,14 @@
+-- One byte is a size. Assumes nothing.
 use Rattle.bytes.specs.Reader.{isSize}
 use mathlib.Core.Path.{refl}
 use borrow.Author.Needs.{needs}
 use Rattle.bytes.proofs.reader.read_u8.Statement.{statement}
 use Rattle.bytes.proofs.reader.read_u8.Tie as tie
-use Rattle.bytes.proofs.reader.read_u8.Reads as reads
-use Rattle.bytes.proofs.reader.read_u8.Lts as lts
-use Rattle.bytes.proofs.reader.read_uint.Reads as read-uint-reads
 
--- src/reader.rt:106:5
 read-uint-requires : tie.Need-read-uint-requires
 unfolding isSize
 read-uint-requires c κs = refl
 
--- src/reader.rt:103:1
 returns : tie.Need-returns
 returns c = search needs
 

@@ -1,29 +1,22 @@
+-- What is skipped is what is cut off. Assumes nothing.
 use Rattle.bytes.proofs.ReaderLaws.{split-got, no-split}
 use mathlib.Core.Path.{sym}
 use borrow.Author.Needs.{needs}
 use Rattle.bytes.proofs.reader.split.Statement.{statement}
 use Rattle.bytes.proofs.reader.split.Tie as tie
-use Rattle.bytes.proofs.reader.split.Reads as reads
-use Rattle.bytes.proofs.reader.split.Lts as lts
-use Rattle.bytes.proofs.reader.skip.Reads as skip-reads
 
--- src/reader.rt:34:11
 skip-requires : tie.Need-skip-requires
 skip-requires c κs = search needs
 
--- src/reader.rt:35:19
 enum-known-c : tie.Need-enum-known-c
 enum-known-c c = search needs
 
--- src/reader.rt:42:24
 enum-known-e : tie.Need-enum-known-e
 enum-known-e c = search needs
 
--- src/reader.rt:31:1
 returns : tie.Need-returns
 returns c = sym (split-got _ _ _ (c .before .before .before .skip .ensures) (c .before .c .given .1))
 
--- src/reader.rt:31:1
 returns-2 : tie.Need-returns-2
 returns-2 c = sym (no-split _ _ _ (c .before .before .before .skip .ensures) (c .before .e .given .1))
 

@@ -1,29 +1,22 @@
+-- What is skipped is where the section is cut. Assumes nothing.
 use Rattle.bytes.proofs.ReaderLaws.{truncate-got, no-truncate}
 use mathlib.Core.Path.{sym}
 use borrow.Author.Needs.{needs}
 use Rattle.bytes.proofs.reader.truncate.Statement.{statement}
 use Rattle.bytes.proofs.reader.truncate.Tie as tie
-use Rattle.bytes.proofs.reader.truncate.Reads as reads
-use Rattle.bytes.proofs.reader.truncate.Lts as lts
-use Rattle.bytes.proofs.reader.skip.Reads as skip-reads
 
--- src/reader.rt:50:11
 skip-requires : tie.Need-skip-requires
 skip-requires c κs = search needs
 
--- src/reader.rt:51:19
 enum-known-c : tie.Need-enum-known-c
 enum-known-c c = search needs
 
--- src/reader.rt:52:24
 enum-known-e : tie.Need-enum-known-e
 enum-known-e c = search needs
 
--- src/reader.rt:47:1
 returns : tie.Need-returns
 returns c = sym (truncate-got _ _ _ (c .before .before .before .skip .ensures) (c .before .c .given .1))
 
--- src/reader.rt:47:1
 returns-2 : tie.Need-returns-2
 returns-2 c = sym (no-truncate _ _ _ (c .before .before .before .skip .ensures) (c .before .e .given .1))
 

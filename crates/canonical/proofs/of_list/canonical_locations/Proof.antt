@@ -1,3 +1,4 @@
+-- The list's coverage, handed on, has the list's canonical bytes: `made-canonical`. Assumes nothing.
 use Rattle.canonical.proofs.MadeLaws.{made-canonical}
 use Rattle.coverage.specs.Output.{written}
 use Rattle.coverage.specs.Covered.{locationList, source}
@@ -9,24 +10,16 @@ use mathlib.Core.Path.{ap, _∙_}
 use borrow.Author.Needs.{needs}
 use Rattle.canonical.proofs.of_list.canonical_locations.Statement.{statement}
 use Rattle.canonical.proofs.of_list.canonical_locations.Tie as tie
-use Rattle.canonical.proofs.of_list.canonical_locations.Reads as reads
-use Rattle.canonical.proofs.of_list.canonical_locations.Lts as lts
-use Rattle.canonical.proofs.of_list.canonical_made.Reads as canonical-made-reads
-use Rattle.coverage.proofs.collect.location_coverage.Reads as location-coverage-reads
 
--- src/of_list.rt:70:9
 location-coverage-requires : tie.Need-location-coverage-requires
 location-coverage-requires c κs = search needs
 
--- src/of_list.rt:80:5
 canonical-made-requires : tie.Need-canonical-made-requires
 canonical-made-requires c κs = search needs
 
--- src/of_list.rt:57:1
 same-length : tie.Need-same-length
 same-length c = search needs
 
--- src/of_list.rt:57:1
 returns : tie.Need-returns
 returns c = let a = c .before .before .before .before .before .before .before .before .args in
     let x = source (locationList (a .split)) (a .encoding) (a .endian) (a .section .now) (a .offset .0) (a .base-address) (a .debug-addr .now) (a .debug-addr-base) in

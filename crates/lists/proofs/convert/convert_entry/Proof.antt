@@ -1,208 +1,158 @@
+-- Each case of the definition, its lookups one after the other. Assumes nothing.
 use Rattle.lists.proofs.ConvertLaws.{looked-up, lookup-refused}
 use Rattle.lists.specs.Convert.{bounded, convert}
 use mathlib.Core.Path.{_≡_, refl, sym, ap, _∙_}
 use borrow.Author.Needs.{needs}
 use Rattle.lists.proofs.convert.convert_entry.Statement.{statement}
 use Rattle.lists.proofs.convert.convert_entry.Tie as tie
-use Rattle.lists.proofs.convert.convert_entry.Reads as reads
-use Rattle.lists.proofs.convert.convert_entry.Lts as lts
-use Rattle.bytes.proofs.address.wrapping_add_sized.Reads as wrapping-add-sized-reads
-use Rattle.lists.proofs.convert.checked.Reads as checked-reads
-use Rattle.lists.proofs.convert.offset_pair.Reads as offset-pair-reads
-use Rattle.lists.proofs.convert.passed.Reads as passed-reads
-use Rattle.tables.proofs.addr.get_address.Reads as get-address-reads
 
--- src/convert.rt:70:46
 enum-known-raw : tie.Need-enum-known-raw
 enum-known-raw c = search needs
 
--- src/convert.rt:70:55
 offset-pair-requires : tie.Need-offset-pair-requires
 offset-pair-requires c κs = search needs
 
--- src/convert.rt:71:38
 enum-known-raw-2 : tie.Need-enum-known-raw-2
 enum-known-raw-2 c = search needs
 
--- src/convert.rt:72:39
 enum-known-raw-3 : tie.Need-enum-known-raw-3
 enum-known-raw-3 c = search needs
 
--- src/convert.rt:73:17
 get-address-requires : tie.Need-get-address-requires
 get-address-requires c κs = search needs
 
--- src/convert.rt:74:40
 enum-known-r : tie.Need-enum-known-r
 enum-known-r c = search needs
 
--- src/convert.rt:75:17
 enum-told : tie.Need-enum-told
 enum-told c = search needs
 
--- src/convert.rt:75:17
 passed-requires : tie.Need-passed-requires
 passed-requires c κs = search needs
 
--- src/convert.rt:75:17
 returns : tie.Need-returns
 unfolding convert
 returns c = lookup-refused _ (c .before .before .before .get-address .ensures) (c .before .enum-told .given .1) (c .passed .ensures)
     ∙ sym (ap (convert _ _ _) (c .before .before .before .before .before .raw3 .given .1))
 
--- src/convert.rt:79:37
 enum-known-raw-4 : tie.Need-enum-known-raw-4
 enum-known-raw-4 c = search needs
 
--- src/convert.rt:80:17
 get-address-requires-2 : tie.Need-get-address-requires-2
 get-address-requires-2 c κs = search needs
 
--- src/convert.rt:81:40
 enum-known-r-2 : tie.Need-enum-known-r-2
 enum-known-r-2 c = search needs
 
--- src/convert.rt:82:17
 enum-told-2 : tie.Need-enum-told-2
 enum-told-2 c = search needs
 
--- src/convert.rt:82:17
 passed-requires-2 : tie.Need-passed-requires-2
 passed-requires-2 c κs = search needs
 
--- src/convert.rt:82:17
 returns-2 : tie.Need-returns-2
 unfolding convert
 returns-2 c = lookup-refused _ (c .before .before .before .get-address2 .ensures) (c .before .enum-told2 .given .1) (c .passed2 .ensures)
     ∙ sym (ap (convert _ _ _) (c .before .before .before .before .before .raw4 .given .1))
 
--- src/convert.rt:84:17
 get-address-requires-3 : tie.Need-get-address-requires-3
 get-address-requires-3 c κs = search needs
 
--- src/convert.rt:85:40
 enum-known-r1 : tie.Need-enum-known-r1
 enum-known-r1 c = search needs
 
--- src/convert.rt:86:17
 enum-told-3 : tie.Need-enum-told-3
 enum-told-3 c = search needs
 
--- src/convert.rt:86:17
 passed-requires-3 : tie.Need-passed-requires-3
 passed-requires-3 c κs = search needs
 
--- src/convert.rt:86:17
 returns-3 : tie.Need-returns-3
 unfolding convert
 returns-3 c = lookup-refused _ (c .before .before .before .get-address3 .ensures) (c .before .enum-told3 .given .1) (c .passed3 .ensures)
     ∙ sym (ap (convert _ _ _) (c .before .before .before .before .before .before .before .before .before .raw4 .given .1) ∙ looked-up _ (c .before .before .before .before .before .before .before .get-address2 .ensures) (c .before .before .before .before .before .r2 .given .1))
 
--- src/convert.rt:88:13
 checked-requires : tie.Need-checked-requires
 checked-requires c κs = search needs
 
--- src/convert.rt:90:39
 enum-known-raw-5 : tie.Need-enum-known-raw-5
 enum-known-raw-5 c = search needs
 
--- src/convert.rt:91:17
 get-address-requires-4 : tie.Need-get-address-requires-4
 get-address-requires-4 c κs = search needs
 
--- src/convert.rt:92:40
 enum-known-r-3 : tie.Need-enum-known-r-3
 enum-known-r-3 c = search needs
 
--- src/convert.rt:93:17
 enum-told-4 : tie.Need-enum-told-4
 enum-told-4 c = search needs
 
--- src/convert.rt:93:17
 passed-requires-4 : tie.Need-passed-requires-4
 passed-requires-4 c κs = search needs
 
--- src/convert.rt:93:17
 returns-4 : tie.Need-returns-4
 unfolding convert
 returns-4 c = lookup-refused _ (c .before .before .before .get-address4 .ensures) (c .before .enum-told4 .given .1) (c .passed4 .ensures)
     ∙ sym (ap (convert _ _ _) (c .before .before .before .before .before .raw5 .given .1))
 
--- src/convert.rt:95:24
 wrapping-add-sized-requires : tie.Need-wrapping-add-sized-requires
 wrapping-add-sized-requires c κs = search needs
 
--- src/convert.rt:95:13
 checked-requires-2 : tie.Need-checked-requires-2
 checked-requires-2 c κs = search needs
 
--- src/convert.rt:97:37
 enum-known-raw-6 : tie.Need-enum-known-raw-6
 enum-known-raw-6 c = search needs
 
--- src/convert.rt:97:46
 offset-pair-requires-2 : tie.Need-offset-pair-requires-2
 offset-pair-requires-2 c κs = search needs
 
--- src/convert.rt:98:35
 enum-known-raw-7 : tie.Need-enum-known-raw-7
 enum-known-raw-7 c = search needs
 
--- src/convert.rt:98:44
 checked-requires-3 : tie.Need-checked-requires-3
 checked-requires-3 c κs = search needs
 
--- src/convert.rt:99:38
 enum-known-raw-8 : tie.Need-enum-known-raw-8
 enum-known-raw-8 c = search needs
 
--- src/convert.rt:100:24
 wrapping-add-sized-requires-2 : tie.Need-wrapping-add-sized-requires-2
 wrapping-add-sized-requires-2 c κs = search needs
 
--- src/convert.rt:100:13
 checked-requires-4 : tie.Need-checked-requires-4
 checked-requires-4 c κs = search needs
 
--- src/convert.rt:58:1
 returns-5 : tie.Need-returns-5
 unfolding convert
 returns-5 c = c .offset-pair .ensures ∙ sym (ap (convert _ _ _) (c .before .before .raw .given .1))
 
--- src/convert.rt:58:1
 returns-6 : tie.Need-returns-6
 unfolding convert
 returns-6 c = sym (ap (convert _ _ _) (c .before .raw2 .given .1))
 
--- src/convert.rt:58:1
 returns-7 : tie.Need-returns-7
 unfolding convert
 returns-7 c = sym (ap (convert _ _ _) (c .before .before .before .before .before .raw3 .given .1) ∙ looked-up _ (c .before .before .before .get-address .ensures) (c .before .r .given .1))
 
--- src/convert.rt:58:1
 returns-8 : tie.Need-returns-8
 unfolding convert
 returns-8 c = c .checked .ensures ∙ sym (ap (convert _ _ _) (c .before .before .before .before .before .before .before .before .before .before .raw4 .given .1)
     ∙ looked-up _ (c .before .before .before .before .before .before .before .before .get-address2 .ensures) (c .before .before .before .before .before .before .r2 .given .1)
     ∙ looked-up _ (c .before .before .before .before .get-address3 .ensures) (c .before .before .r1 .given .1))
 
--- src/convert.rt:58:1
 returns-9 : tie.Need-returns-9
 unfolding convert
 returns-9 c = c .checked2 .ensures ∙ ap (bounded (c .before .before .before .before .before .before .before .before .before .before .args .encoding .«address_size») (c .before .before .before .r3 .given .0 .0)) (c .before .wrapping-add-sized .ensures)
     ∙ sym (ap (convert _ _ _) (c .before .before .before .before .before .before .before .raw5 .given .1) ∙ looked-up _ (c .before .before .before .before .before .get-address4 .ensures) (c .before .before .before .r3 .given .1))
 
--- src/convert.rt:58:1
 returns-10 : tie.Need-returns-10
 unfolding convert
 returns-10 c = c .offset-pair2 .ensures ∙ sym (ap (convert _ _ _) (c .before .before .raw6 .given .1))
 
--- src/convert.rt:58:1
 returns-11 : tie.Need-returns-11
 unfolding convert
 returns-11 c = c .checked3 .ensures ∙ sym (ap (convert _ _ _) (c .before .before .raw7 .given .1))
 
--- src/convert.rt:58:1
 returns-12 : tie.Need-returns-12
 unfolding convert
 returns-12 c = c .checked4 .ensures ∙ ap (bounded (c .before .before .before .before .before .before .args .encoding .«address_size») (c .before .before .before .raw8 .given .0 .0)) (c .before .wrapping-add-sized2 .ensures) ∙ sym (ap (convert _ _ _) (c .before .before .before .raw8 .given .1))

@@ -1,35 +1,25 @@
+-- The base is tested; then the sums are bounds. Assumes nothing.
 use Rattle.lists.proofs.ConvertLaws.{base-skipped, base-added}
 use mathlib.Core.Path.{_∙_}
 use borrow.Author.Needs.{needs}
 use Rattle.lists.proofs.convert.offset_pair.Statement.{statement}
 use Rattle.lists.proofs.convert.offset_pair.Tie as tie
-use Rattle.lists.proofs.convert.offset_pair.Reads as reads
-use Rattle.lists.proofs.convert.offset_pair.Lts as lts
-use Rattle.bytes.proofs.address.min_tombstone.Reads as min-tombstone-reads
-use Rattle.bytes.proofs.address.wrapping_add_sized.Reads as wrapping-add-sized-reads
-use Rattle.lists.proofs.convert.checked.Reads as checked-reads
 
--- src/convert.rt:39:9
 wrapping-add-sized-requires : tie.Need-wrapping-add-sized-requires
 wrapping-add-sized-requires c κs = search needs
 
--- src/convert.rt:40:9
 wrapping-add-sized-requires-2 : tie.Need-wrapping-add-sized-requires-2
 wrapping-add-sized-requires-2 c κs = search needs
 
--- src/convert.rt:41:8
 min-tombstone-requires : tie.Need-min-tombstone-requires
 min-tombstone-requires c κs = search needs
 
--- src/convert.rt:42:9
 returns : tie.Need-returns
 returns c = base-skipped _ (c .before .min-tombstone .ensures) _ _ _ (c .if1 .taken)
 
--- src/convert.rt:44:5
 checked-requires : tie.Need-checked-requires
 checked-requires c κs = search needs
 
--- src/convert.rt:36:1
 returns-2 : tie.Need-returns-2
 returns-2 c = c .checked .ensures ∙ base-added _ (c .before .before .min-tombstone .ensures) _ _ _ (c .before .if1 .left) (c .before .before .before .before .wrapping-add-sized .ensures) (c .before .before .before .wrapping-add-sized2 .ensures)
 

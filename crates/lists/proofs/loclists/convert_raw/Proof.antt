@@ -1,69 +1,50 @@
+-- The size, then what the conversion of the bounds answers. Assumes nothing.
 use Rattle.lists.proofs.ConvertLaws.{converted-other, converted-is}
 use Rattle.lists.specs.Convert.{told, convert}
 use mathlib.Core.Path.{sym, ap, _∙_}
 use borrow.Author.Needs.{needs}
 use Rattle.lists.proofs.loclists.convert_raw.Statement.{statement}
 use Rattle.lists.proofs.loclists.convert_raw.Tie as tie
-use Rattle.lists.proofs.loclists.convert_raw.Reads as reads
-use Rattle.lists.proofs.loclists.convert_raw.Lts as lts
-use Rattle.bytes.proofs.reader.is_address_size.Reads as is-address-size-reads
-use Rattle.lists.proofs.convert.bounds_of.Reads as bounds-of-reads
-use Rattle.lists.proofs.convert.convert_entry.Reads as convert-entry-reads
-use Rattle.lists.proofs.convert.expression_of.Reads as expression-of-reads
 
--- src/loclists.rt:104:16
 cast-size : tie.Need-cast-size
 cast-size c = search needs
 
--- src/loclists.rt:105:8
 is-address-size-requires : tie.Need-is-address-size-requires
 is-address-size-requires c κs = search needs
 
--- src/loclists.rt:106:13
 bounds-of-requires : tie.Need-bounds-of-requires
 bounds-of-requires c κs = search needs
 
--- src/loclists.rt:107:13
 expression-of-requires : tie.Need-expression-of-requires
 expression-of-requires c κs = search needs
 
--- src/loclists.rt:108:22
 convert-entry-requires : tie.Need-convert-entry-requires
 convert-entry-requires c κs = search needs
 
--- src/loclists.rt:116:30
 enum-known-range : tie.Need-enum-known-range
 enum-known-range c = search needs
 
--- src/loclists.rt:117:29
 enum-known-base-address : tie.Need-enum-known-base-address
 enum-known-base-address c = search needs
 
--- src/loclists.rt:118:32
 enum-told : tie.Need-enum-told
 enum-told c = search needs
 
--- src/loclists.rt:119:32
 enum-known-e : tie.Need-enum-known-e
 enum-known-e c = search needs
 
--- src/loclists.rt:108:9
 returns : tie.Need-returns
 returns c = rw (c .before .before .before .before .expression-of .ensures) (sym (converted-is _ _ _ _ _ (sym (c .before .before .before .before .before .before .before .is-address-size .ensures) ∙ c .before .before .before .before .before .before .if1 .taken) (sym (ap told (c .before .range .given .1)) ∙ c .before .before .before .convert-entry .ensures ∙ ap (convert _ _ _) (c .before .before .before .before .before .bounds-of .ensures))))
 
--- src/loclists.rt:108:9
 returns-2 : tie.Need-returns-2
 returns-2 c = sym (converted-is _ _ _ _ _ (sym (c .before .before .before .before .before .before .before .is-address-size .ensures) ∙ c .before .before .before .before .before .before .if1 .taken) (sym (ap told (c .before .base-address .given .1)) ∙ c .before .before .before .convert-entry .ensures ∙ ap (convert _ _ _) (c .before .before .before .before .before .bounds-of .ensures)))
 
--- src/loclists.rt:108:9
 returns-3 : tie.Need-returns-3
 returns-3 c = sym (converted-is _ _ _ _ _ (sym (c .before .before .before .before .before .before .is-address-size .ensures) ∙ c .before .before .before .before .before .if1 .taken) (sym (ap told (c .enum-told .given .1)) ∙ c .before .before .convert-entry .ensures ∙ ap (convert _ _ _) (c .before .before .before .before .bounds-of .ensures)))
 
--- src/loclists.rt:108:9
 returns-4 : tie.Need-returns-4
 returns-4 c = sym (converted-is _ _ _ _ _ (sym (c .before .before .before .before .before .before .before .is-address-size .ensures) ∙ c .before .before .before .before .before .before .if1 .taken) (sym (ap told (c .before .e .given .1)) ∙ c .before .before .before .convert-entry .ensures ∙ ap (convert _ _ _) (c .before .before .before .before .before .bounds-of .ensures)))
 
--- src/loclists.rt:93:1
 returns-5 : tie.Need-returns-5
 returns-5 c = sym (converted-other _ _ _ _ _ (sym (c .before .is-address-size .ensures) ∙ c .if1 .left))
 

@@ -1,15 +1,12 @@
+-- By version. Assumes nothing.
 use Rattle.lists.proofs.ConvertLaws.{older-section, newer-section}
 use mathlib.Core.Path.{sym}
 use Rattle.lists.proofs.loclists.section.Statement.{statement}
 use Rattle.lists.proofs.loclists.section.Tie as tie
-use Rattle.lists.proofs.loclists.section.Reads as reads
-use Rattle.lists.proofs.loclists.section.Lts as lts
 
--- src/loclists.rt:24:9
 returns : tie.Need-returns
 returns c = sym (older-section _ _ _ (c .if1 .taken))
 
--- src/loclists.rt:20:1
 returns-2 : tie.Need-returns-2
 returns-2 c = sym (newer-section _ _ _ (c .if1 .left))
 

@@ -1,30 +1,23 @@
+-- The size, then the offset. Assumes nothing.
 use Rattle.lists.proofs.ConvertLaws.{opened-list, opened-past, opened-other}
 use mathlib.Core.Path.{sym, _∙_}
 use native.Mathlib.Omega.{arith}
 use borrow.Author.Needs.{needs}
 use Rattle.lists.proofs.open.open.Statement.{statement}
 use Rattle.lists.proofs.open.open.Tie as tie
-use Rattle.lists.proofs.open.open.Reads as reads
-use Rattle.lists.proofs.open.open.Lts as lts
-use Rattle.bytes.proofs.reader.is_address_size.Reads as is-address-size-reads
 
--- src/open.rt:13:16
 cast-size : tie.Need-cast-size
 cast-size c = search needs
 
--- src/open.rt:14:8
 is-address-size-requires : tie.Need-is-address-size-requires
 is-address-size-requires c κs = search needs
 
--- src/open.rt:16:13
 returns : tie.Need-returns
 returns c = sym (opened-past _ _ _ _ (sym (c .before .before .is-address-size .ensures) ∙ c .before .if1 .taken) (omega arith))
 
--- src/open.rt:18:9
 returns-2 : tie.Need-returns-2
 returns-2 c = sym (opened-list _ _ _ _ (sym (c .before .before .is-address-size .ensures) ∙ c .before .if1 .taken) (omega arith))
 
--- src/open.rt:10:1
 returns-3 : tie.Need-returns-3
 returns-3 c = sym (opened-other _ _ _ _ (sym (c .before .is-address-size .ensures) ∙ c .if1 .left))
 

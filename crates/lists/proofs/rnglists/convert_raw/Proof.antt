@@ -1,59 +1,44 @@
+-- The size, then what the conversion answers. Assumes nothing.
 use Rattle.lists.proofs.ConvertLaws.{converted-other, converted-is}
 use Rattle.lists.specs.Convert.{told, convert}
 use mathlib.Core.Path.{sym, ap, _∙_}
 use borrow.Author.Needs.{needs}
 use Rattle.lists.proofs.rnglists.convert_raw.Statement.{statement}
 use Rattle.lists.proofs.rnglists.convert_raw.Tie as tie
-use Rattle.lists.proofs.rnglists.convert_raw.Reads as reads
-use Rattle.lists.proofs.rnglists.convert_raw.Lts as lts
-use Rattle.bytes.proofs.reader.is_address_size.Reads as is-address-size-reads
-use Rattle.lists.proofs.convert.convert_entry.Reads as convert-entry-reads
 
--- src/rnglists.rt:102:16
 cast-size : tie.Need-cast-size
 cast-size c = search needs
 
--- src/rnglists.rt:103:8
 is-address-size-requires : tie.Need-is-address-size-requires
 is-address-size-requires c κs = search needs
 
--- src/rnglists.rt:104:22
 convert-entry-requires : tie.Need-convert-entry-requires
 convert-entry-requires c κs = search needs
 
--- src/rnglists.rt:112:30
 enum-known-r : tie.Need-enum-known-r
 enum-known-r c = search needs
 
--- src/rnglists.rt:113:29
 enum-known-base-address : tie.Need-enum-known-base-address
 enum-known-base-address c = search needs
 
--- src/rnglists.rt:114:32
 enum-told : tie.Need-enum-told
 enum-told c = search needs
 
--- src/rnglists.rt:115:32
 enum-known-e : tie.Need-enum-known-e
 enum-known-e c = search needs
 
--- src/rnglists.rt:104:9
 returns : tie.Need-returns
 returns c = sym (converted-is _ _ _ _ _ (sym (c .before .before .before .before .before .is-address-size .ensures) ∙ c .before .before .before .before .if1 .taken) (sym (ap told (c .before .r .given .1)) ∙ c .before .before .before .convert-entry .ensures))
 
--- src/rnglists.rt:104:9
 returns-2 : tie.Need-returns-2
 returns-2 c = sym (converted-is _ _ _ _ _ (sym (c .before .before .before .before .before .is-address-size .ensures) ∙ c .before .before .before .before .if1 .taken) (sym (ap told (c .before .base-address .given .1)) ∙ c .before .before .before .convert-entry .ensures))
 
--- src/rnglists.rt:104:9
 returns-3 : tie.Need-returns-3
 returns-3 c = sym (converted-is _ _ _ _ _ (sym (c .before .before .before .before .is-address-size .ensures) ∙ c .before .before .before .if1 .taken) (sym (ap told (c .enum-told .given .1)) ∙ c .before .before .convert-entry .ensures))
 
--- src/rnglists.rt:104:9
 returns-4 : tie.Need-returns-4
 returns-4 c = sym (converted-is _ _ _ _ _ (sym (c .before .before .before .before .before .is-address-size .ensures) ∙ c .before .before .before .before .if1 .taken) (sym (ap told (c .before .e .given .1)) ∙ c .before .before .before .convert-entry .ensures))
 
--- src/rnglists.rt:91:1
 returns-5 : tie.Need-returns-5
 returns-5 c = sym (converted-other _ _ _ _ _ (sym (c .before .is-address-size .ensures) ∙ c .if1 .left))
 
