@@ -1,0 +1,533 @@
+//! Runs the examples of document 01 and the rows of its open points through
+//! the oracle, and says which answers differ from the ones stated there.
+
+use oracle::oracle_api::*;
+
+#[derive(Default)]
+struct Check {
+    run: usize,
+    wrong: usize,
+}
+
+impl Check {
+    fn same<T: PartialEq + std::fmt::Debug>(&mut self, name: &str, got: T, stated: T) {
+        self.run += 1;
+        if got != stated {
+            self.wrong += 1;
+            println!("differs: {name}\n  stated {stated:x?}\n  gimli  {got:x?}");
+        }
+    }
+}
+
+fn bytes(text: &str) -> Vec<u8> {
+    text.split_whitespace().map(|byte| u8::from_str_radix(byte, 16).unwrap()).collect()
+}
+
+fn join(parts: &[&[u8]]) -> Vec<u8> {
+    parts.concat()
+}
+
+/// Document 01's usual list: version 5, size 4, little-endian, base 0.
+fn list(kind: Kind, section: &[u8]) -> List<'_> {
+    List {
+        kind,
+        old: section,
+        new: section,
+        offset: 0,
+        version: 5,
+        address_size: 4,
+        dwarf64: false,
+        big_endian: false,
+        base_address: 0,
+        table: &[],
+        table_base: 0,
+    }
+}
+
+fn range(begin: u64, end: u64) -> Answer<Yielded> {
+    Answer::Entry(Yielded { begin, end, expression: None })
+}
+
+fn location(begin: u64, end: u64, offset: u64, length: u64) -> Answer<Yielded> {
+    Answer::Entry(Yielded { begin, end, expression: Some(Place { offset, length }) })
+}
+
+fn no(number: u8, value: u64) -> Refusal {
+    Refusal { number, value }
+}
+
+fn refused<T>(number: u8, value: u64) -> Answer<T> {
+    Answer::Refused(no(number, value))
+}
+
+fn entry(form: Form, first: u64, second: u64) -> Raw {
+    Raw { form, first, second, expression: None }
+}
+
+const TABLE: &str = "0c 00 00 00 05 00 04 00 10 00 00 00 20 00 00 00";
+
+fn main() {
+    let mut check = Check::default();
+    examples(&mut check);
+    kinds(&mut check);
+    false_friends(&mut check);
+    refusals(&mut check);
+    rules(&mut check);
+    open_points(&mut check);
+    differences(&mut check);
+    println!("{} examples, {} differ", check.run, check.wrong);
+    std::process::exit(i32::from(check.wrong != 0));
+}
+
+fn examples(c: &mut Check) {
+    use Kind::*;
+    let end = Answer::End;
+
+    for kind in [Ranges, Locations, SplitLocations] {
+        c.same("00", walk(&list(kind, &[0]), 9), vec![end]);
+        c.same("empty section, offset 0", walk(&list(kind, &[]), 9), vec![end]);
+        let past = List { offset: 1, ..list(kind, &[]) };
+        c.same("empty section, offset 1", walk(&past, 9), vec![refused(1, 0)]);
+        c.same("empty section, offset 1, raw", RawWalk::open(&past).err(), Some(no(1, 0)));
+    }
+
+    let b = bytes("06 10 00 00 00 20 00 00 00 00");
+    c.same("start, end", walk(&list(Ranges, &b), 9), vec![range(0x10, 0x20), end]);
+
+    let b = bytes("04 01 82 00 00");
+    let l = List { base_address: 0x1000, ..list(Ranges, &b) };
+    c.same("padded offset pair", walk(&l, 9), vec![range(0x1001, 0x1002), end]);
+
+    let b = bytes("04 00 01 00");
+    let l = List { base_address: 0xfffffffd, ..list(Ranges, &b) };
+    c.same("base below the bound", walk(&l, 9), vec![range(0xfffffffd, 0xfffffffe), end]);
+    let l = List { base_address: 0xfffffffe, ..list(Ranges, &b) };
+    c.same("base at the bound", walk(&l, 9), vec![end]);
+
+    let b = bytes("04 80 02 90 02 00");
+    let l = List { base_address: 0xffffff00, ..list(Ranges, &b) };
+    c.same("wrapped sum", walk(&l, 9), vec![range(0, 0x10), end]);
+
+    let b = bytes("07 f0 0f 00");
+    let l = List { address_size: 1, ..list(Ranges, &b) };
+    c.same("size 1, 07 f0 0f", walk(&l, 9), vec![range(0xf0, 0xff), end]);
+    let b = bytes("07 f0 20 00");
+    let l = List { address_size: 1, ..list(Ranges, &b) };
+    c.same("size 1, 07 f0 20", walk(&l, 9), vec![end]);
+
+    let nine = [0x80; 9];
+    c.same("nine 80, 01", uleb128(&join(&[&nine, &[1]])), Ok((1 << 63, 10)));
+    c.same("nine 80, 00", uleb128(&join(&[&nine, &[0]])), Ok((0, 10)));
+    c.same("nine 80, 02", uleb128(&join(&[&nine, &[2]])), Err(no(2, 0)));
+
+    let b = bytes("ff ff 00 20 01 00 03 00 00 00 00 00");
+    let l = List { version: 4, address_size: 2, ..list(Ranges, &b) };
+    c.same("version 4, base selection", walk(&l, 9), vec![range(0x2001, 0x2003), end]);
+
+    let table = bytes(TABLE);
+    let b = bytes("02 00 02 03 00 08 00");
+    let l = List { table: &table, table_base: 8, ..list(Ranges, &b) };
+    c.same("failed lookup", walk(&l, 9), vec![refused(1, 0), range(0x10, 0x18), end]);
+
+    let b = bytes("05 01 50 00");
+    c.same("default", walk(&list(Locations, &b), 9), vec![location(0, u64::MAX, 2, 1), end]);
+    c.same("expression", b[2], 0x50);
+
+    let b = bytes("03 00 08 00 00 00 01 00 50 00");
+    let l = List { version: 4, table: &table, table_base: 8, ..list(SplitLocations, &b) };
+    c.same("split, version 4", walk(&l, 9), vec![location(0x10, 0x18, 8, 1), end]);
+    c.same("expression", b[8], 0x50);
+
+    // gimli makes no canonical lists; it walks them.
+    let b = bytes("07 10 00 00 00 00 00 00 00 20 00");
+    let l = List { address_size: 8, ..list(Ranges, &b) };
+    c.same("canonical list", walk(&l, 9), vec![range(0x10, 0x30), end]);
+    let b = bytes("06 20 00 00 00 30 00 00 00 06 10 00 00 00 20 00 00 00 00");
+    let l = list(Ranges, &b);
+    c.same("its source", walk(&l, 9), vec![range(0x20, 0x30), range(0x10, 0x20), end]);
+}
+
+/// Document 01's table of kinds: every number, by the form it is read as.
+fn kinds(c: &mut Check) {
+    use Form::*;
+    let table = [
+        (BaseIndex, Some(1), 1, 0),
+        (StartEndIndex, Some(2), 2, 2),
+        (StartLengthIndex, Some(3), 2, 2),
+        (OffsetPair, Some(4), 2, 2),
+        (Default, None, 0, 2),
+        (Base, Some(5), 1, 0),
+        (StartEnd, Some(6), 2, 2),
+        (StartLength, Some(7), 2, 2),
+    ];
+    for (code, (form, range_code, numbers, expression)) in (1..).zip(table) {
+        let operands = &[0x21, 0x43][..numbers];
+        let (first, second) = [(0, 0), (0x21, 0), (0x21, 0x43)][numbers];
+        let mut raw = entry(form, first, second);
+        if let Some(code) = range_code {
+            let b = join(&[&[code], operands, &[0]]);
+            let l = List { address_size: 1, ..list(Kind::Ranges, &b) };
+            c.same("range kind", walk_raw(&l, 9), vec![Answer::Entry(raw), Answer::End]);
+        }
+        let b = join(&[&[code], operands, &[1, 0x50][..expression], &[0]]);
+        if expression > 0 {
+            raw.expression = Some(Place { offset: numbers as u64 + 2, length: 1 });
+        }
+        for kind in [Kind::Locations, Kind::SplitLocations] {
+            let l = List { address_size: 1, ..list(kind, &b) };
+            c.same("location kind", walk_raw(&l, 9), vec![Answer::Entry(raw), Answer::End]);
+        }
+    }
+}
+
+fn false_friends(c: &mut Check) {
+    use Kind::*;
+    let end = Answer::End;
+    // The base is at the bound, the wrapped sums are 0 and 1.
+    let b = bytes("04 02 03 00");
+    let l = List { base_address: 0xfffffffe, ..list(Ranges, &b) };
+    c.same("the base is tested", walk(&l, 9), vec![end]);
+    let b = bytes("06 10 00 00 00 20 00 00 00");
+    c.same("no end mark", walk(&list(Ranges, &b), 9), vec![range(0x10, 0x20), end]);
+    let b = bytes("05 05 01 02 00 00");
+    let l = List { version: 4, address_size: 1, ..list(Ranges, &b) };
+    c.same("begin = end in a bare pair", walk(&l, 9), vec![range(1, 2), end]);
+}
+
+fn list_refusal(header: &str) -> Option<Refusal> {
+    lists_header(&bytes(header), false).err()
+}
+
+fn table_refusal(header: &str) -> Option<Refusal> {
+    match Tables::open(&bytes(header), false).next() {
+        Answer::Refused(refusal) => Some(refusal),
+        _ => None,
+    }
+}
+
+fn refusals(c: &mut Check) {
+    use Kind::*;
+    let one = |kind, b: &[u8]| walk_raw(&list(kind, b), 9);
+    let end = Answer::End;
+    c.same("1", one(Ranges, &bytes("06 10 00")), vec![refused(1, 0), end]);
+    let b = join(&[&[4], &[0x80; 9], &[2]]);
+    c.same("2", one(Ranges, &b), vec![refused(2, 0), end]);
+    c.same("3", one(Ranges, &[8]), vec![refused(3, 8), end]);
+    c.same("3, ff", one(Ranges, &[0xff]), vec![refused(3, 0xff), end]);
+    c.same("4", one(Locations, &[9]), vec![refused(4, 9), end]);
+    c.same("4, split", one(SplitLocations, &[9]), vec![refused(4, 9), end]);
+    for (name, header) in [("list", list_refusal as fn(&str) -> _), ("table", table_refusal)] {
+        let mut same = |text: &str, number, value| {
+            c.same(&format!("{name} header {text}"), header(text), Some(no(number, value)));
+        };
+        same("08 00 00 00 04 00 04 00 00 00 00 00", 5, 4);
+        same("08 00 00 00 05 00 03 00 00 00 00 00", 6, 3);
+        same("08 00 00 00 05 00 04 01 00 00 00 00", 7, 1);
+        same("f0 ff ff ff", 8, 0xfffffff0);
+        same("fe ff ff ff", 8, 0xfffffffe);
+        // The order of the checks is that of the bytes.
+        same("ff ff ff ff 00 00 00 00", 1, 0);
+        same("09 00 00 00 04 00 03 01 00 00 00 00", 1, 0);
+        same("01 00 00 00 04 00", 1, 0);
+        same("08 00 00 00 04 00 03 01 00 00 00 00", 5, 4);
+        same("08 00 00 00 05 00 03 01 00 00 00 00", 6, 3);
+        same("02 00 00 00 05 00 04 01", 1, 0);
+        same("03 00 00 00 05 00 04 01", 1, 0);
+    }
+    let got = list_refusal("04 00 00 00 05 00 04 00 00 00 00 00");
+    c.same("list header without a count", got, Some(no(1, 0)));
+    c.same("9", get_address(&[0; 64], false, 8, 0, 1 << 61), Err(no(9, 0)));
+    for kind in [Ranges, Locations] {
+        let got = get_offset(kind, &[0; 64], false, true, 0, 1 << 61);
+        c.same("9, get_offset", got, OffsetAnswer::Refused(no(9, 0)));
+        let got = get_offset(kind, &[0; 64], false, false, 0, 1 << 62);
+        c.same("9, get_offset, 32-bit", got, OffsetAnswer::Refused(no(9, 0)));
+    }
+    let b = bytes("07 10 00 00 00 01").repeat(1025);
+    let answers = walk(&list(Ranges, &b), 2000);
+    c.same("10's list", answers, [vec![range(0x10, 0x11); 1025], vec![Answer::End]].concat());
+}
+
+fn rules(c: &mut Check) {
+    use Kind::*;
+    let end = Answer::End;
+
+    for size in [1, 2, 4, 8] {
+        let top = u64::MAX >> (64 - 8 * u32::from(size));
+        c.same("min_tombstone", min_tombstone(size), top - 1);
+        c.same("ones_sized", ones_sized(size), top);
+        c.same("wrapping_add_sized", wrapping_add_sized(top, 3, size), 2);
+        c.same("wrapping_add_sized, 2^64", wrapping_add_sized(u64::MAX, u64::MAX, size), top - 1);
+    }
+
+    c.same(
+        "initial length",
+        initial_length(&bytes("ef ff ff ff"), false),
+        Ok((0xffffffef, false, 4)),
+    );
+    let b = bytes("ff ff ff ff 01 00 00 00 00 00 00 80");
+    c.same("initial length, 64-bit", initial_length(&b, false), Ok(((1 << 63) + 1, true, 12)));
+
+    let b = bytes("08 00 00 00 05 00 04 00 02 00 00 00 aa");
+    let stated = Lists {
+        dwarf64: false,
+        version: 5,
+        address_size: 4,
+        entry_count: 2,
+        size: 12,
+        rest: Place { offset: 12, length: 0 },
+    };
+    c.same("list header", lists_header(&b, false), Ok(stated));
+    let b = bytes("ff ff ff ff 00 00 00 00 00 00 00 09 00 05 08 00 00 00 00 03 aa bb");
+    let stated = Lists {
+        dwarf64: true,
+        version: 5,
+        address_size: 8,
+        entry_count: 3,
+        size: 20,
+        rest: Place { offset: 20, length: 1 },
+    };
+    c.same("list header, 64-bit, big-endian", lists_header(&b, true), Ok(stated));
+
+    // The padding is 0 for every size in both formats.
+    for size in [1, 2, 4, 8] {
+        for dwarf64 in [false, true] {
+            let mut b = if dwarf64 {
+                bytes("ff ff ff ff 0c 00 00 00 00 00 00 00 05 00 00 00")
+            } else {
+                bytes("0c 00 00 00 05 00 00 00")
+            };
+            let header = b.len() as u64;
+            b[header as usize - 2] = size;
+            b.extend([0x11; 8]);
+            let mut tables = Tables::open(&b, false);
+            let Answer::Entry((table, _)) = tables.next() else { panic!("no table") };
+            c.same("no padding", table.entries, Place { offset: header, length: 8 });
+            c.same("place after it", tables.place(), header + 8);
+        }
+    }
+
+    // After a refusal both table iterators are emptied.
+    let b = bytes("04 00 00 00 04 00 04 00 04 00 00 00 05 00 04 00");
+    let mut tables = Tables::open(&b, false);
+    c.same("bad table", tables.next().is(), refused(5, 4));
+    c.same("emptied", (tables.next().is(), tables.place()), (Answer::End, 16));
+
+    // Split lists up to version 4: kind 3's length is four bytes, an
+    // expression's two; kind 4's numbers and kind 8's length stay LEB128.
+    for version in [2, 3, 4] {
+        let split = |text: &str| {
+            let b = bytes(text);
+            walk(&List { version, ..list(SplitLocations, &b) }, 9)
+        };
+        c.same("split kind 4", split("04 01 82 00 01 00 50 00"), vec![location(1, 2, 6, 1), end]);
+        c.same("split kind 5", split("05 01 00 50 00"), vec![location(0, u64::MAX, 3, 1), end]);
+        c.same(
+            "split kind 6",
+            split("06 00 10 00 00 04 01 02 00 00 00"),
+            vec![location(0x1001, 0x1002, 10, 0), end],
+        );
+        c.same(
+            "split kind 7",
+            split("07 10 00 00 00 20 00 00 00 01 00 50 00"),
+            vec![location(0x10, 0x20, 11, 1), end],
+        );
+        c.same(
+            "split kind 8",
+            split("08 10 00 00 00 81 00 01 00 50 00"),
+            vec![location(0x10, 0x11, 9, 1), end],
+        );
+        c.same("split kind 1", split("01 00 00"), vec![refused(1, 0), end]);
+        c.same("split kind 2", split("02 00 01 00 00 00"), vec![refused(1, 0), end]);
+    }
+
+    // Length ff ff ff ff, as met in the field.
+    let b = bytes("03 00 ff ff ff ff 00 00");
+    let table = bytes("10 00 00 00 00 00 00 00");
+    let at = |address_size| {
+        let l = List { version: 4, address_size, table: &table, ..list(SplitLocations, &b) };
+        walk(&l, 9)
+    };
+    c.same("4 GB at size 8", at(8), vec![location(0x10, 0x10000000f, 8, 0), end]);
+    c.same("skipped at size 4", at(4), vec![end]);
+
+    // Versions below 3 are read as 3, above 5 as 5.
+    let b = bytes("01 00 02 00 03 00 50 51 52 00 00 00 00");
+    for kind in [Ranges, Locations, SplitLocations] {
+        let at = |version| walk_raw(&List { version, address_size: 2, ..list(kind, &b) }, 9);
+        for version in [0, 1, 2, 4] {
+            c.same("version below 5", at(version), at(3));
+        }
+        for version in [6, 7, 0xffff] {
+            c.same("version above 5", at(version), at(5));
+        }
+    }
+    let l = List { version: 4, address_size: 2, ..list(Locations, &b) };
+    c.same("bare location", walk(&l, 9), vec![location(1, 2, 6, 3), end]);
+
+    // The choosing call.
+    let (old, new) = (bytes("01 02 00 00"), bytes("04 03 04 00"));
+    let at = |version| walk(&List { old: &old, version, address_size: 1, ..list(Ranges, &new) }, 9);
+    c.same("old section", at(4), vec![range(1, 2), end]);
+    c.same("new section", at(5), vec![range(3, 4), end]);
+
+    // A failed lookup leaves base and place; a raw refusal empties the walk.
+    let b = bytes("01 00 04 01 02 08 00");
+    let l = List { base_address: 0x100, ..list(Ranges, &b) };
+    let mut w = Walk::open(&l).unwrap();
+    let mut at = |name: &str, answer, place| {
+        c.same(name, w.next(), answer);
+        c.same(name, w.state(), State { place, base_address: 0x100 });
+    };
+    at("failed lookup", refused(1, 0), 2);
+    at("next entry", range(0x101, 0x102), 5);
+    at("raw refusal", refused(3, 8), 7);
+    at("end", Answer::End, 7);
+
+    // A wrapped-around begin at the bound and a begin not below the end.
+    let b = bytes("06 fe ff 06 fd ff 06 20 10 06 20 20 00");
+    let l = List { address_size: 1, ..list(Ranges, &b) };
+    c.same("skips", walk(&l, 9), vec![range(0xfd, 0xff), end]);
+
+    // get_offset.
+    let b = bytes("08 00 00 00 05 00 04 00 01 00 00 00 04 00 00 00 00");
+    for kind in [Ranges, Locations] {
+        let at = |base, index| get_offset(kind, &b, false, false, base, index);
+        c.same("get_offset", at(12, 0), OffsetAnswer::Offset(16));
+        c.same("get_offset past the end", at(12, 1), OffsetAnswer::Refused(no(1, 0)));
+        c.same("get_offset, base past the end", at(18, 1 << 62), OffsetAnswer::Refused(no(1, 0)));
+        c.same("get_offset, product", at(17, 1 << 62), OffsetAnswer::Refused(no(9, 0)));
+    }
+    let table = [0; 8];
+    c.same("base before product", get_address(&table, false, 8, 9, 1 << 61), Err(no(1, 0)));
+    c.same("product before size", get_address(&table, false, 3, 0, u64::MAX), Err(no(9, 0)));
+    c.same("size before end", get_address(&table, false, 3, 8, 0), Err(no(6, 3)));
+    c.same("size 0", get_address(&table, false, 0, 8, u64::MAX), Err(no(6, 0)));
+}
+
+fn open_points(c: &mut Check) {
+    use Kind::*;
+    let end = Answer::End;
+
+    let eight = [0x80; 8];
+    let b = join(&[&[2], &eight, &[0x20, 0, 0]]);
+    let l = List { address_size: 8, ..list(Ranges, &b) };
+    c.same("row 1, begin too large", walk(&l, 9), vec![refused(9, 0), end]);
+    let b = join(&[&[2, 0], &eight, &[0x20, 0]]);
+    let l = List { address_size: 8, ..list(Ranges, &b) };
+    c.same("row 1, begin missing", walk(&l, 9), vec![refused(1, 0), end]);
+
+    c.same("row 2", get_address(&[0; 8], false, 8, 8, (1 << 61) - 1), Err(no(1, 0)));
+
+    let b = bytes("01 02 00 00");
+    let l = List { version: 4, address_size: 1, ..list(Ranges, &b) };
+    let stated = vec![Answer::Entry(entry(Form::BarePair, 1, 2)), Answer::End];
+    c.same("row 3", walk_raw(&l, 9), stated);
+    let l = List { base_address: 0x10, ..l };
+    c.same("row 3, converted", walk(&l, 9), vec![range(0x11, 0x12), end]);
+
+    let mut w = list(Ranges, &[0, 8]);
+    for kind in [Ranges, Locations, SplitLocations] {
+        w.kind = kind;
+        let mut w = Walk::open(&w).unwrap();
+        for _ in 0..3 {
+            c.same("row 4", (w.next_raw(), w.next()), (Answer::End, Answer::End));
+            c.same("row 4, place", w.state().place, 2);
+        }
+    }
+
+    c.same("row 6", get_address(&[], false, 3, 1, 0), Err(no(1, 0)));
+    c.same("row 6, base 0", get_address(&[], false, 3, 0, 0), Err(no(6, 3)));
+
+    let b = bytes("05 00");
+    let l = list(Locations, &b);
+    c.same("row 7", walk(&l, 9), vec![location(0, u64::MAX, 2, 0), end]);
+    let b = bytes("aa aa aa 05 00");
+    let l = List { offset: 3, ..list(Locations, &b) };
+    c.same("row 7, from the section's start", walk(&l, 9), vec![location(0, u64::MAX, 5, 0), end]);
+
+    let b = bytes(TABLE);
+    let mut tables = Tables::open(&b, false);
+    let stated = Table {
+        offset: 0,
+        length: 0xc,
+        dwarf64: false,
+        version: 5,
+        address_size: 4,
+        entries: Place { offset: 8, length: 8 },
+    };
+    let Answer::Entry((table, mut entries)) = tables.next() else { panic!("no table") };
+    c.same("row 8", table, stated);
+    c.same("row 8, entry", (entries.next(), entries.left()), (Answer::Entry(0x10), 4));
+    c.same("row 8, entry", (entries.next(), entries.left()), (Answer::Entry(0x20), 0));
+    c.same("row 8, end", entries.next(), Answer::End);
+    c.same("row 8, no more tables", tables.next().is(), Answer::End);
+
+    let b = bytes("05 00 00 00 05 00 02 00 aa bb");
+    let mut tables = Tables::open(&b, false);
+    let Answer::Entry((_, mut entries)) = tables.next() else { panic!("no table") };
+    c.same("row 9", (entries.next(), entries.left()), (refused(1, 0), 0));
+    c.same("row 9, emptied", entries.next(), Answer::End);
+
+    let l = List { address_size: 1, ..list(Ranges, &[0]) };
+    let mut w = Walk::open(&l).unwrap();
+    let wide = Yielded { begin: 0x10, end: 0x1000, expression: None };
+    let got = w.convert_raw(entry(Form::StartEnd, 0x10, 0x1000));
+    c.same("row 10, wide end", got, Converted::Entry(wide));
+    c.same("row 10, base", w.convert_raw(entry(Form::Base, 0x1ff, 0)), Converted::Nothing);
+    c.same("row 10, wide base", w.convert_raw(entry(Form::OffsetPair, 1, 2)), Converted::Nothing);
+    c.same("row 10, base kept", w.state(), State { place: 0, base_address: 0x1ff });
+
+    for kind in [Ranges, Locations] {
+        for version in 2..=6 {
+            for dwarf64 in [false, true] {
+                let header = if dwarf64 { 20 } else { 12 };
+                let stated = if version >= 5 { header } else { 0 };
+                c.same("row 12, split", default_base(kind, version, dwarf64, true), stated);
+                c.same("row 12, plain", default_base(kind, version, dwarf64, false), 0);
+            }
+        }
+    }
+
+    let table = bytes("00 00 00 10");
+    let b = bytes("03 00 08 00");
+    let l = List { big_endian: true, table: &table, ..list(Ranges, &b) };
+    c.same("row 13", walk(&l, 9), vec![range(0x10, 0x18), end]);
+
+    let l = bytes("05 02 50");
+    c.same("row 16", walk(&list(Locations, &l), 9), vec![refused(1, 0), end]);
+    let l = join(&[&[5], &[0x80; 9], &[1, 0x50]]);
+    c.same("row 16, 2^63", walk(&list(Locations, &l), 9), vec![refused(1, 0), end]);
+}
+
+/// What gimli answers where document 01 lists a difference.
+fn differences(c: &mut Check) {
+    use Kind::*;
+    let end = Answer::End;
+    // Size 3: the port refuses with 6 when the list is opened.
+    let b = bytes("04 01 02 06 00 00 00 00");
+    let l = List { address_size: 3, ..list(Ranges, &b) };
+    c.same("size 3", walk(&l, 9), vec![range(1, 2), refused(6, 3), end]);
+    // The port refuses with 9.
+    let b = bytes("aa ff ff ff ff ff ff ff ff");
+    let got = get_offset(Ranges, &b, false, true, 1, 0);
+    c.same("get_offset, sum", got, OffsetAnswer::SumTooLarge);
+    let b = bytes("aa fe ff ff ff ff ff ff ff");
+    let got = get_offset(Ranges, &b, false, true, 1, 0);
+    c.same("get_offset, largest sum", got, OffsetAnswer::Offset(u64::MAX));
+}
+
+/// An answer without the iterator that comes with a table.
+trait Is {
+    fn is(self) -> Answer<Table>;
+}
+
+impl Is for Answer<(Table, Entries<'_>)> {
+    fn is(self) -> Answer<Table> {
+        match self {
+            Answer::Entry((table, _)) => Answer::Entry(table),
+            Answer::End => Answer::End,
+            Answer::Refused(refusal) => Answer::Refused(refusal),
+        }
+    }
+}

@@ -1,0 +1,490 @@
+//! Compares a reader with the oracle, call by call. The reader is anything
+//! that answers the calls of `Port`; cases come from the generator. Left out
+//! are document 01's listed differences: walks with other address sizes, and
+//! list offsets whose sum passes 2^64. They are counted, and the reader is
+//! held to the page there.
+
+use std::collections::BTreeMap;
+use std::fmt::Debug;
+
+use generator::{Case, ConvertCase, ListCase, Random};
+use oracle::oracle_api::{self as gimli, *};
+
+/// The first entry whose range holds an address, "not there", or a refusal.
+pub type Found = Answer<Yielded>;
+
+/// The calls compared. Walks go in by value and come back.
+pub trait Port: Sync {
+    fn open(&self, list: &List) -> Result<State, Refusal>;
+    fn next(&self, list: &List, walk: State) -> (Answer<Yielded>, State);
+    fn next_raw(&self, list: &List, walk: State) -> (Answer<Raw>, State);
+    fn convert_raw(&self, list: &List, walk: State, entry: Raw) -> (Converted, State);
+
+    fn lookup(&self, list: &List, address: u64) -> Found {
+        let mut state = match self.open(list) {
+            Ok(state) => state,
+            Err(refusal) => return Answer::Refused(refusal),
+        };
+        loop {
+            let (answer, after) = self.next(list, state);
+            match answer {
+                Answer::Entry(entry) if !holds(&entry, address) => state = after,
+                answer => return answer,
+            }
+        }
+    }
+
+    fn get_address(
+        &self,
+        table: &[u8],
+        big_endian: bool,
+        size: u8,
+        base: u64,
+        index: u64,
+    ) -> Result<u64, Refusal>;
+    /// The table at a place, and the place of the next.
+    fn next_table(&self, section: &[u8], big_endian: bool, place: u64) -> (Answer<Table>, u64);
+    /// The first entry of a place, and the place of the rest.
+    fn next_entry(
+        &self,
+        section: &[u8],
+        big_endian: bool,
+        size: u8,
+        rest: Place,
+    ) -> (Answer<u64>, Place);
+    fn lists_header(&self, section: &[u8], big_endian: bool) -> Result<Lists, Refusal>;
+    fn get_offset(
+        &self,
+        kind: Kind,
+        section: &[u8],
+        big_endian: bool,
+        dwarf64: bool,
+        base: u64,
+        index: u64,
+    ) -> Result<u64, Refusal>;
+    fn default_base(&self, kind: Kind, version: u16, dwarf64: bool, split_file: bool) -> u64;
+
+    fn uleb128(&self, bytes: &[u8]) -> Result<(u64, u64), Refusal>;
+    fn read_number(&self, bytes: &[u8], big_endian: bool, width: u8)
+    -> Result<(u64, u64), Refusal>;
+    fn read_address(&self, bytes: &[u8], big_endian: bool, size: u8)
+    -> Result<(u64, u64), Refusal>;
+    fn read_offset(
+        &self,
+        bytes: &[u8],
+        big_endian: bool,
+        dwarf64: bool,
+    ) -> Result<(u64, u64), Refusal>;
+    fn initial_length(&self, bytes: &[u8], big_endian: bool) -> Result<(u64, bool, u64), Refusal>;
+    fn read_address_size(&self, bytes: &[u8]) -> Result<(u8, u64), Refusal>;
+    fn skip(&self, bytes: &[u8], count: u64) -> Result<Place, Refusal>;
+    fn split(&self, bytes: &[u8], count: u64) -> Result<(Place, Place), Refusal>;
+    fn truncate(&self, bytes: &[u8], length: u64) -> Result<Place, Refusal>;
+    fn wrapping_add_sized(&self, address: u64, length: u64, size: u8) -> u64;
+    fn min_tombstone(&self, size: u8) -> u64;
+}
+
+fn holds(entry: &Yielded, address: u64) -> bool {
+    entry.begin <= address && address < entry.end
+}
+
+/// How often each thing was met, by name, how many calls were compared, and
+/// how many were left out.
+#[derive(Default)]
+pub struct Met {
+    pub calls: u64,
+    pub left_out: u64,
+    pub names: BTreeMap<String, u64>,
+}
+
+impl Met {
+    pub fn join(&mut self, other: Met) {
+        self.calls += other.calls;
+        self.left_out += other.left_out;
+        for (name, count) in other.names {
+            *self.names.entry(name).or_default() += count;
+        }
+    }
+
+    fn met(&mut self, name: String) {
+        *self.names.entry(name).or_default() += 1;
+    }
+
+    /// One compared call: an error that names it when the answers differ.
+    fn same<T: PartialEq + Debug>(
+        &mut self,
+        call: &str,
+        oracle: &T,
+        port: &T,
+    ) -> Result<(), String> {
+        self.calls += 1;
+        if oracle == port {
+            return Ok(());
+        }
+        Err(format!("{call}: oracle {oracle:x?}, port {port:x?}"))
+    }
+
+    /// A call that is left out: not gimli's answer but the page's.
+    fn by_the_page<T: PartialEq + Debug>(
+        &mut self,
+        call: &str,
+        page: &T,
+        port: &T,
+    ) -> Result<(), String> {
+        self.left_out += 1;
+        self.met(format!("left out: {call}"));
+        if page == port {
+            return Ok(());
+        }
+        Err(format!("{call}: document 01 {page:x?}, port {port:x?}"))
+    }
+}
+
+pub fn kind_of(kind: generator::Kind) -> Kind {
+    match kind {
+        generator::Kind::Ranges => Kind::Ranges,
+        generator::Kind::Locations => Kind::Locations,
+        generator::Kind::SplitLocations => Kind::SplitLocations,
+    }
+}
+
+pub fn list_of(case: &ListCase) -> List<'_> {
+    List {
+        kind: kind_of(case.kind),
+        old: &case.old,
+        new: &case.new,
+        offset: case.offset,
+        version: case.version,
+        address_size: case.address_size,
+        dwarf64: case.dwarf64,
+        big_endian: case.big_endian,
+        base_address: case.base_address,
+        table: &case.table,
+        table_base: case.table_base,
+    }
+}
+
+/// Compares all calls of a case. `seed` chooses the order of calls on a walk.
+pub fn compare(port: &impl Port, case: &Case, seed: u64, met: &mut Met) -> Result<(), String> {
+    match case {
+        Case::List(case) => {
+            let list = list_of(case);
+            if Random::new(seed ^ OTHER_SIZE).one_in(1, 64) {
+                other_size(port, &list, seed, met)?;
+            }
+            walk(port, &list, seed, met)?;
+            lookups(port, &list, seed, met)
+        }
+        Case::Convert(case) => convert(port, case, met),
+        Case::Address(c) => {
+            let oracle =
+                gimli::get_address(&c.table, c.big_endian, c.address_size, c.base, c.index);
+            let got = port.get_address(&c.table, c.big_endian, c.address_size, c.base, c.index);
+            count(met, "get_address", oracle.err());
+            met.same("get_address", &oracle, &got)
+        }
+        Case::Tables(case) => tables(port, &case.section, case.big_endian, met),
+        Case::Lists(case) => {
+            let oracle = gimli::lists_header(&case.section, case.big_endian);
+            count(met, "lists header", oracle.err());
+            met.same("lists header", &oracle, &port.lists_header(&case.section, case.big_endian))
+        }
+        Case::Offset(c) => {
+            let kind = kind_of(c.kind);
+            let got = port.get_offset(kind, &c.section, c.big_endian, c.dwarf64, c.base, c.index);
+            let oracle =
+                match gimli::get_offset(kind, &c.section, c.big_endian, c.dwarf64, c.base, c.index)
+                {
+                    OffsetAnswer::Offset(offset) => Ok(offset),
+                    OffsetAnswer::Refused(refusal) => Err(refusal),
+                    OffsetAnswer::SumTooLarge => {
+                        let page = Err(Refusal { number: 9, value: 0 });
+                        return met.by_the_page("get_offset, sum from 2^64 on", &page, &got);
+                    }
+                };
+            count(met, "get_offset", oracle.err());
+            met.same("get_offset", &oracle, &got)
+        }
+        Case::Leb128(bytes) => {
+            let oracle = gimli::uleb128(bytes);
+            count(met, "uleb128", oracle.err());
+            met.same("uleb128", &oracle, &port.uleb128(bytes))
+        }
+        Case::Bytes(c) => {
+            let (b, big, n) = (&c.bytes, c.big_endian, c.count);
+            let number = gimli::read_number(b, big, c.width);
+            met.same("read_number", &number, &port.read_number(b, big, c.width))?;
+            for size in [c.width, n as u8] {
+                let oracle = gimli::read_address(b, big, size);
+                met.same("read_address", &oracle, &port.read_address(b, big, size))?;
+            }
+            let initial = gimli::initial_length(b, big);
+            count(met, "initial length", initial.err());
+            met.same("initial_length", &initial, &port.initial_length(b, big))?;
+            for dwarf64 in [false, true] {
+                let oracle = gimli::read_offset(b, big, dwarf64);
+                met.same("read_offset", &oracle, &port.read_offset(b, big, dwarf64))?;
+            }
+            met.same(
+                "read_address_size",
+                &gimli::read_address_size(b),
+                &port.read_address_size(b),
+            )?;
+            met.same("skip", &gimli::skip(b, n), &port.skip(b, n))?;
+            met.same("split", &gimli::split(b, n), &port.split(b, n))?;
+            met.same("truncate", &gimli::truncate(b, n), &port.truncate(b, n))
+        }
+        Case::Sum(c) => {
+            let (a, b, size) = (c.first, c.second, c.address_size);
+            let oracle = gimli::wrapping_add_sized(a, b, size);
+            met.same("wrapping_add_sized", &oracle, &port.wrapping_add_sized(a, b, size))?;
+            met.same("min_tombstone", &gimli::min_tombstone(size), &port.min_tombstone(size))
+        }
+    }
+}
+
+fn count(met: &mut Met, call: &str, refusal: Option<Refusal>) {
+    match refusal {
+        Some(refusal) => met.met(format!("{call} refused {}", refusal.number)),
+        None => met.met(format!("{call} answered")),
+    }
+}
+
+fn count_answer<T>(met: &mut Met, call: &str, answer: &Answer<T>) {
+    match answer {
+        Answer::Entry(_) => met.met(format!("{call} entry")),
+        Answer::End => met.met(format!("{call} end")),
+        Answer::Refused(refusal) => met.met(format!("{call} refused {}", refusal.number)),
+    }
+}
+
+/// Walks a list: `next`, or `next_raw` and `convert_raw`, or both by turns;
+/// after the end three calls more.
+pub fn walk(port: &impl Port, list: &List, seed: u64, met: &mut Met) -> Result<(), String> {
+    let opened = Walk::open(list);
+    let got = port.open(list);
+    let (mut oracle, mut state) = match (opened, got) {
+        (Ok(walk), Ok(state)) => (walk, state),
+        (Err(refusal), got) => {
+            met.met(format!("open refused {}", refusal.number));
+            return met.same("open", &Err(refusal), &got);
+        }
+        (Ok(walk), got) => return met.same("open", &Ok(walk.state()), &got),
+    };
+    met.same("walk opened", &oracle.state(), &state)?;
+    let r = &mut Random::new(!seed);
+    let style = r.below(3);
+    let what = format!("{:?} {}", list.kind, if list.version <= 4 { "to 4" } else { "from 5" });
+    let mut ends = 0;
+    while ends < 4 {
+        if style == 0 || style == 2 && r.one_in(1, 2) {
+            let answer = oracle.next();
+            let (got, after) = port.next(list, state);
+            count_answer(met, &format!("{what} next"), &answer);
+            met.same("next", &answer, &got)?;
+            met.same("walk after next", &oracle.state(), &after)?;
+            state = after;
+            ends += u32::from(answer == Answer::End);
+            continue;
+        }
+        let answer = oracle.next_raw();
+        let (got, after) = port.next_raw(list, state);
+        met.same("next_raw", &answer, &got)?;
+        met.same("walk after next_raw", &oracle.state(), &after)?;
+        state = after;
+        match answer {
+            Answer::Entry(entry) => {
+                met.met(format!("{what} raw {:?}", entry.form));
+                if style == 1 || r.one_in(7, 8) {
+                    state = convert_one(port, list, &mut oracle, state, entry, met)?;
+                }
+            }
+            Answer::End => ends += 1,
+            Answer::Refused(refusal) => met.met(format!("{what} raw refused {}", refusal.number)),
+        }
+    }
+    Ok(())
+}
+
+/// A seed's other number: whether its list is tried with another size too.
+const OTHER_SIZE: u64 = 0x6f74686572;
+
+/// A list with an address size that isn't read: refused with 6 at opening,
+/// and by any call on a walk made by hand.
+fn other_size(port: &impl Port, list: &List, seed: u64, met: &mut Met) -> Result<(), String> {
+    let r = &mut Random::new(seed ^ OTHER_SIZE ^ !0);
+    let mut size = r.next() as u8;
+    while [1, 2, 4, 8].contains(&size) {
+        size = size.wrapping_add(3);
+    }
+    let list = &List { address_size: size, ..*list };
+    let no = Refusal { number: 6, value: u64::from(size) };
+    met.by_the_page("open, other size", &Err(no), &port.open(list))?;
+    met.by_the_page("lookup, other size", &Answer::Refused(no), &port.lookup(list, r.next()))?;
+    let length = list.section().len() as u64;
+    let base_address = r.next();
+    let walk = State { place: r.below(length + 2), base_address };
+    let emptied = State { place: length, base_address };
+    let next = port.next(list, walk);
+    met.by_the_page("next, other size", &(Answer::Refused(no), emptied), &next)?;
+    let raw = port.next_raw(list, walk);
+    met.by_the_page("next_raw, other size", &(Answer::Refused(no), emptied), &raw)?;
+    let entry = Raw { form: Form::Base, first: r.next(), second: 0, expression: None };
+    let converted = port.convert_raw(list, walk, entry);
+    met.by_the_page("convert_raw, other size", &(Converted::Refused(no), walk), &converted)
+}
+
+/// Looks addresses up: gimli has no such call, so its walk up to the entry
+/// that holds the address is the answer.
+fn lookups(port: &impl Port, list: &List, seed: u64, met: &mut Met) -> Result<(), String> {
+    let r = &mut Random::new(seed.rotate_left(32));
+    let answers = gimli::walk(list, usize::MAX);
+    for _ in 0..2 {
+        let address = match answers[r.below(answers.len() as u64) as usize] {
+            Answer::Entry(entry) => match r.below(4) {
+                0 => entry.begin,
+                1 => entry.end - 1,
+                2 => entry.end,
+                _ => entry.begin.wrapping_sub(1),
+            },
+            _ => r.next() >> r.below(64),
+        };
+        let first = answers.iter().find(|answer| match answer {
+            Answer::Entry(entry) => holds(entry, address),
+            _ => true,
+        });
+        let oracle = *first.expect("a walk's end");
+        count_answer(met, "lookup", &oracle);
+        met.same("lookup", &oracle, &port.lookup(list, address))?;
+    }
+    Ok(())
+}
+
+fn convert_one(
+    port: &impl Port,
+    list: &List,
+    oracle: &mut Walk,
+    state: State,
+    entry: Raw,
+    met: &mut Met,
+) -> Result<State, String> {
+    let answer = oracle.convert_raw(entry);
+    let (got, after) = port.convert_raw(list, state, entry);
+    match answer {
+        Converted::Entry(_) => met.met(format!("convert {:?} entry", entry.form)),
+        Converted::Nothing => met.met(format!("convert {:?} nothing", entry.form)),
+        Converted::Refused(r) => met.met(format!("convert {:?} refused {}", entry.form, r.number)),
+    }
+    met.same("convert_raw", &answer, &got)?;
+    met.same("walk after convert_raw", &oracle.state(), &after)?;
+    Ok(after)
+}
+
+/// Converts entries made by hand.
+fn convert(port: &impl Port, case: &ConvertCase, met: &mut Met) -> Result<(), String> {
+    use Form::*;
+    let forms = [
+        BarePair,
+        Base,
+        BaseIndex,
+        StartEndIndex,
+        StartLengthIndex,
+        OffsetPair,
+        Default,
+        StartEnd,
+        StartLength,
+    ];
+    let list = list_of(&case.list);
+    let mut oracle = Walk::open(&list).map_err(|refusal| format!("open: {refusal:?}"))?;
+    let mut state = oracle.state();
+    for entry in &case.entries {
+        let form = forms[usize::from(entry.form)];
+        let located = list.kind != Kind::Ranges && !matches!(form, Base | BaseIndex);
+        let (offset, length) = entry.expression;
+        let expression = located.then_some(Place { offset, length });
+        let entry = Raw { form, first: entry.first, second: entry.second, expression };
+        state = convert_one(port, &list, &mut oracle, state, entry, met)?;
+    }
+    Ok(())
+}
+
+/// Reads all tables of a section and all their entries.
+fn tables(port: &impl Port, section: &[u8], big_endian: bool, met: &mut Met) -> Result<(), String> {
+    let mut oracle = Tables::open(section, big_endian);
+    let mut place = 0;
+    let mut ends = 0;
+    while ends < 3 {
+        let answer = oracle.next();
+        let (got, after) = port.next_table(section, big_endian, place);
+        count_answer(met, "table", &answer);
+        place = after;
+        let table = match &answer {
+            Answer::Entry((table, _)) => Answer::Entry(*table),
+            Answer::End => Answer::End,
+            Answer::Refused(refusal) => Answer::Refused(*refusal),
+        };
+        met.same("table", &table, &got)?;
+        met.same("place after table", &oracle.place(), &place)?;
+        let Answer::Entry((table, mut entries)) = answer else {
+            ends += u32::from(matches!(answer, Answer::End));
+            continue;
+        };
+        let mut rest = table.entries;
+        let mut last = 0;
+        while last < 3 {
+            let answer = entries.next();
+            let (got, after) = port.next_entry(section, big_endian, table.address_size, rest);
+            count_answer(met, "table entry", &answer);
+            rest = after;
+            met.same("table entry", &answer, &got)?;
+            met.same("left after entry", &entries.left(), &rest.length)?;
+            last += u32::from(answer == Answer::End);
+        }
+    }
+    Ok(())
+}
+
+/// Walks one short list at size 1 as every kind, version 4 and 5, answers
+/// only. Byte order matters where lengths are two or four bytes. One base
+/// address is below the tombstone bound and lets sums wrap, one is at it.
+pub fn short(port: &impl Port, bytes: &[u8], met: &mut Met) -> Result<(), String> {
+    let lists = [
+        (Kind::Ranges, 4, false),
+        (Kind::Ranges, 5, false),
+        (Kind::Locations, 4, false),
+        (Kind::Locations, 4, true),
+        (Kind::Locations, 5, false),
+        (Kind::SplitLocations, 4, false),
+        (Kind::SplitLocations, 4, true),
+        (Kind::SplitLocations, 5, false),
+    ];
+    let all = lists.iter().flat_map(|&list| [0xf8, 0xfe].map(|base| (list, base)));
+    for ((kind, version, big_endian), base_address) in all {
+        let list = List {
+            kind,
+            old: bytes,
+            new: bytes,
+            offset: 0,
+            version,
+            address_size: 1,
+            dwarf64: false,
+            big_endian,
+            base_address,
+            table: &[0x10, 0x18, 0xfe],
+            table_base: 0,
+        };
+        let named = |error| format!("{error}\n{list:x?}");
+        let mut oracle = Walk::open(&list).map_err(|r| named(format!("open: {r:?}")))?;
+        let mut state = port.open(&list).map_err(|r| named(format!("open: {r:?}")))?;
+        loop {
+            let answer = oracle.next();
+            let (got, after) = port.next(&list, state);
+            met.same("next", &answer, &got).map_err(named)?;
+            state = after;
+            if answer == Answer::End {
+                break;
+            }
+        }
+    }
+    Ok(())
+}

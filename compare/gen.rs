@@ -1,0 +1,777 @@
+//! Cases for the comparison, each made from a seed alone, and every short list
+//! by its number. Nothing here knows a reader.
+
+/// Numbers from a seed (splitmix64).
+pub struct Random(u64);
+
+impl Random {
+    pub fn new(seed: u64) -> Random {
+        Random(seed)
+    }
+
+    pub fn next(&mut self) -> u64 {
+        self.0 = self.0.wrapping_add(0x9e3779b97f4a7c15);
+        let mut z = self.0;
+        z = (z ^ (z >> 30)).wrapping_mul(0xbf58476d1ce4e5b9);
+        z = (z ^ (z >> 27)).wrapping_mul(0x94d049bb133111eb);
+        z ^ (z >> 31)
+    }
+
+    /// A number below `limit`.
+    pub fn below(&mut self, limit: u64) -> u64 {
+        self.next() % limit
+    }
+
+    /// True in `part` of `whole` cases.
+    pub fn one_in(&mut self, part: u64, whole: u64) -> bool {
+        self.below(whole) < part
+    }
+
+    pub fn pick<T: Copy>(&mut self, from: &[T]) -> T {
+        from[self.below(from.len() as u64) as usize]
+    }
+
+    fn bytes(&mut self, count: u64) -> Vec<u8> {
+        (0..count).map(|_| self.next() as u8).collect()
+    }
+}
+
+#[derive(Debug, Clone, Copy, PartialEq, Eq, Hash)]
+pub enum Kind {
+    Ranges,
+    Locations,
+    SplitLocations,
+}
+
+pub const KINDS: [Kind; 3] = [Kind::Ranges, Kind::Locations, Kind::SplitLocations];
+pub const SIZES: [u8; 4] = [1, 2, 4, 8];
+
+/// A list and all that its reading depends on. `old` is read up to version 4,
+/// `new` from version 5.
+#[derive(Debug, Clone, PartialEq, Eq)]
+pub struct ListCase {
+    pub kind: Kind,
+    pub old: Vec<u8>,
+    pub new: Vec<u8>,
+    pub offset: u64,
+    pub version: u16,
+    pub address_size: u8,
+    pub dwarf64: bool,
+    pub big_endian: bool,
+    pub base_address: u64,
+    pub table: Vec<u8>,
+    pub table_base: u64,
+}
+
+/// A raw entry made by hand, for conversion. `form` counts the forms in this
+/// order: bare pair, base, base by index, start and end by index, start by
+/// index and length, offset pair, default, start and end, start and length.
+/// `expression` is an offset and a length inside the section.
+#[derive(Debug, Clone, PartialEq, Eq)]
+pub struct ConvertCase {
+    pub list: ListCase,
+    pub entries: Vec<RawCase>,
+}
+
+#[derive(Debug, Clone, Copy, PartialEq, Eq)]
+pub struct RawCase {
+    pub form: u8,
+    pub first: u64,
+    pub second: u64,
+    pub expression: (u64, u64),
+}
+
+/// A lookup in an address table.
+#[derive(Debug, Clone, PartialEq, Eq)]
+pub struct AddressCase {
+    pub table: Vec<u8>,
+    pub big_endian: bool,
+    pub address_size: u8,
+    pub base: u64,
+    pub index: u64,
+}
+
+/// A section that begins with a header: address tables or a lists section.
+#[derive(Debug, Clone, PartialEq, Eq)]
+pub struct SectionCase {
+    pub section: Vec<u8>,
+    pub big_endian: bool,
+}
+
+/// A lookup in a table of list offsets.
+#[derive(Debug, Clone, PartialEq, Eq)]
+pub struct OffsetCase {
+    pub kind: Kind,
+    pub section: Vec<u8>,
+    pub big_endian: bool,
+    pub dwarf64: bool,
+    pub base: u64,
+    pub index: u64,
+}
+
+/// Reading numbers and parts: some bytes, a width, a count to skip or keep.
+#[derive(Debug, Clone, PartialEq, Eq)]
+pub struct BytesCase {
+    pub bytes: Vec<u8>,
+    pub big_endian: bool,
+    pub width: u8,
+    pub count: u64,
+}
+
+/// Sums: two numbers and an address size.
+#[derive(Debug, Clone, PartialEq, Eq)]
+pub struct SumCase {
+    pub first: u64,
+    pub second: u64,
+    pub address_size: u8,
+}
+
+#[derive(Debug, Clone, PartialEq, Eq)]
+pub enum Case {
+    List(ListCase),
+    Convert(ConvertCase),
+    Address(AddressCase),
+    Tables(SectionCase),
+    Lists(SectionCase),
+    Offset(OffsetCase),
+    Leb128(Vec<u8>),
+    Bytes(BytesCase),
+    Sum(SumCase),
+}
+
+/// The case of a seed.
+pub fn case(seed: u64) -> Case {
+    let r = &mut Random::new(seed);
+    match r.below(40) {
+        0..=22 => Case::List(list_case(r)),
+        23..=26 => Case::Convert(convert_case(r)),
+        27..=29 => Case::Address(address_case(r)),
+        30..=31 => Case::Tables(tables_case(r)),
+        32..=33 => Case::Lists(lists_case(r)),
+        34..=35 => Case::Offset(offset_case(r)),
+        36..=37 => Case::Leb128(leb128_case(r)),
+        38 => Case::Bytes(bytes_case(r)),
+        _ => {
+            let size = r.pick(&SIZES);
+            let (first, second) = (number(r, size), number(r, size));
+            Case::Sum(SumCase { first, second, address_size: size })
+        }
+    }
+}
+
+/// How many byte strings of up to three bytes there are.
+pub const SHORT_LISTS: u32 = 1 + 0x100 + 0x10000 + 0x1000000;
+
+/// Every byte string of up to three bytes, by length, then by bytes.
+pub fn short_list(index: u32) -> ([u8; 3], usize) {
+    let (mut rest, mut length) = (index, 0);
+    while rest >= 1 << (8 * length) {
+        rest -= 1 << (8 * length);
+        length += 1;
+    }
+    let [_, a, b, c] = rest.to_be_bytes();
+    ([[0; 3], [c, 0, 0], [b, c, 0], [a, b, c]][length], length)
+}
+
+/// How wild a list is.
+#[derive(Clone, Copy, PartialEq, Eq)]
+enum Wild {
+    /// Ordinary numbers in shortest form; every entry is well made.
+    Tame,
+    /// Numbers at every boundary, padded forms; every entry is well made.
+    Edges,
+    /// Also overlong numbers, unknown kinds, wrong lengths.
+    Broken,
+}
+
+/// The largest address; a size above 8 counts as 8.
+fn top(size: u8) -> u64 {
+    u64::MAX >> (64 - 8 * u32::from(size.min(8)))
+}
+
+/// A number at or near a boundary, or any number of some width.
+fn number(r: &mut Random, size: u8) -> u64 {
+    let top = top(size);
+    match r.below(16) {
+        0 => 0,
+        1 => 1,
+        2 => r.below(300),
+        3 | 4 => top - r.below(4),
+        5 => top.wrapping_add(1 + r.below(4)),
+        6 => (top >> 1).wrapping_add(r.below(3)),
+        7 => r.pick(&[0x7f, 0x80, 0x3fff, 0x4000, 0xffff, 0x10000]),
+        8 => r.pick(&[0x7fffffff, 0x80000000, 0xfffffffe, 0xffffffff, 0x100000000]),
+        9 => r.pick(&[1 << 61, (1 << 61) - 1, 1 << 62, (1 << 63) - 1, 1 << 63, (1 << 63) + 1]),
+        10 => u64::MAX - r.below(4),
+        11 => r.below(0x1000).wrapping_neg(),
+        12 => r.next() & top,
+        _ => r.next() >> r.below(64),
+    }
+}
+
+/// A small number that fits the size.
+fn tame(r: &mut Random, size: u8) -> u64 {
+    r.below(if size == 1 { 0x60 } else { 0x2000 })
+}
+
+fn some_number(r: &mut Random, size: u8, wild: Wild) -> u64 {
+    if wild == Wild::Tame || r.one_in(1, 3) { tame(r, size) } else { number(r, size) }
+}
+
+/// A begin and an end, mostly in order.
+fn pair(r: &mut Random, size: u8, wild: Wild) -> (u64, u64) {
+    let begin = some_number(r, size, wild);
+    if wild == Wild::Tame {
+        return (begin, begin + 1 + r.below(0x40));
+    }
+    let end = match r.below(8) {
+        0 => begin,
+        1 => begin.wrapping_sub(1),
+        2 => some_number(r, size, wild),
+        3 => begin.wrapping_add(number(r, size)),
+        4 => begin.wrapping_add(top(size)).wrapping_add(r.below(4)),
+        _ => begin.wrapping_add(1 + r.below(0x40)),
+    };
+    (begin, end)
+}
+
+/// The bytes of a section under way, in its byte order.
+struct Writer {
+    out: Vec<u8>,
+    big_endian: bool,
+}
+
+impl Writer {
+    fn fixed(&mut self, value: u64, width: u8) {
+        let little = &value.to_le_bytes()[..usize::from(width)];
+        if self.big_endian {
+            self.out.extend(little.iter().rev());
+        } else {
+            self.out.extend(little);
+        }
+    }
+
+    /// LEB128 in at least `least` bytes, ten at most.
+    fn leb128(&mut self, mut value: u64, least: usize) {
+        let start = self.out.len();
+        loop {
+            let byte = value as u8 & 0x7f;
+            value >>= 7;
+            let last = value == 0 && self.out.len() - start + 1 >= least;
+            self.out.push(if last { byte } else { byte | 0x80 });
+            if last {
+                return;
+            }
+        }
+    }
+
+    /// LEB128 in shortest, padded or, in a broken list, overlong form.
+    fn number(&mut self, r: &mut Random, value: u64, wild: Wild) {
+        if wild == Wild::Broken && r.one_in(1, 24) {
+            let tenth = r.pick(&[0x02, 0x7f, 0x80, 0x81, 0xff]);
+            let filler = r.pick(&[0x80, 0xff]);
+            self.out.extend([filler; 9]);
+            self.out.push(tenth);
+            return;
+        }
+        let least = if wild == Wild::Tame || r.one_in(3, 4) { 1 } else { 1 + r.below(10) };
+        self.leb128(value, least as usize);
+    }
+}
+
+fn expression_length(r: &mut Random) -> u64 {
+    match r.below(40) {
+        0..=19 => 1 + r.below(4),
+        20..=29 => 0,
+        30..=35 => r.below(20),
+        36 | 37 => r.pick(&[126, 127, 128, 129]),
+        38 => r.pick(&[255, 256, 257, 300]),
+        _ if r.one_in(1, 40) => r.pick(&[5325, 16383, 16384, 65535]),
+        _ => 2,
+    }
+}
+
+/// A length and an expression; `old` for a two-byte length.
+fn expression(w: &mut Writer, r: &mut Random, old: bool, wild: Wild) {
+    let length = expression_length(r);
+    let stated = if wild == Wild::Broken && r.one_in(1, 24) {
+        match r.below(4) {
+            0 => length + 1,
+            1 => length.saturating_sub(1),
+            2 => r.pick(&[0xffff, 1 << 32, 1 << 63, u64::MAX]),
+            _ => number(r, 2),
+        }
+    } else {
+        length
+    };
+    if old {
+        w.fixed(stated, 2);
+    } else {
+        w.number(r, stated, wild);
+    }
+    let bytes = r.bytes(length);
+    w.out.extend(bytes);
+}
+
+/// An index into a table of `count` entries, mostly inside.
+fn index(r: &mut Random, count: u64, size: u8, wild: Wild) -> u64 {
+    let inside = if wild == Wild::Tame { 15 } else { 9 };
+    match r.below(16) {
+        n if n < inside => r.below(count.max(1)),
+        n if n < 12 => count + r.below(3),
+        n if n < 14 => {
+            // Where index times size passes 2^64.
+            let width = u128::from(size);
+            ((1u128 << 64) / width).wrapping_sub(u128::from(r.below(3))) as u64
+        }
+        _ => number(r, size),
+    }
+}
+
+/// One entry with a kind byte.
+fn kind_entry(w: &mut Writer, r: &mut Random, list: &ListCase, count: u64, wild: Wild) {
+    let size = list.address_size;
+    let located = list.kind != Kind::Ranges;
+    let old = list.version <= 4;
+    // By document 01's meanings: 1 to 8 are location kinds.
+    let meaning = r.pick(&[1, 2, 3, 3, 4, 4, 4, 5, 6, 7, 7, 8, 8]);
+    if !located && meaning == 5 {
+        return;
+    }
+    w.out.push(if located || meaning < 5 { meaning } else { meaning - 1 });
+    let (begin, end) = pair(r, size, wild);
+    let length = match r.below(8) {
+        0 => 0,
+        1 => end,
+        2 => some_number(r, size, wild),
+        _ => r.below(0x40) + 1,
+    };
+    match meaning {
+        1 => {
+            let at = index(r, count, size, wild);
+            w.number(r, at, wild);
+        }
+        2 => {
+            let at = index(r, count, size, wild);
+            w.number(r, at, wild);
+            let to = if r.one_in(1, 2) { at.wrapping_add(1) } else { index(r, count, size, wild) };
+            w.number(r, to, wild);
+        }
+        3 => {
+            let at = index(r, count, size, wild);
+            w.number(r, at, wild);
+            if located && old {
+                w.fixed(if r.one_in(1, 16) { 0xffffffff } else { length }, 4);
+            } else {
+                w.number(r, length, wild);
+            }
+        }
+        4 => {
+            w.number(r, begin, wild);
+            w.number(r, end, wild);
+        }
+        5 => {}
+        6 => {
+            let base = base(r, size, wild);
+            w.fixed(base, size);
+        }
+        7 => {
+            w.fixed(begin, size);
+            w.fixed(end, size);
+        }
+        _ => {
+            w.fixed(begin, size);
+            w.number(r, length, wild);
+        }
+    }
+    if located && !matches!(meaning, 1 | 6) {
+        expression(w, r, old, wild);
+    }
+}
+
+/// A bare pair, a base selection, or nearly one.
+fn bare_entry(w: &mut Writer, r: &mut Random, list: &ListCase, wild: Wild) {
+    let size = list.address_size;
+    let (mut begin, mut end) = pair(r, size, wild);
+    let what = r.below(12);
+    if what == 0 || what == 1 {
+        w.fixed(top(size), size);
+        let base = base(r, size, wild);
+        w.fixed(base, size);
+        return;
+    }
+    if wild != Wild::Tame && what == 2 {
+        begin = top(size) - 1;
+    }
+    if wild != Wild::Tame && what == 3 {
+        begin = 0;
+        end = r.below(2);
+    }
+    w.fixed(begin, size);
+    w.fixed(end, size);
+    if list.kind == Kind::Locations && (begin & top(size), end & top(size)) != (0, 0) {
+        expression(w, r, true, wild);
+    }
+}
+
+/// A base address, often where sums wrap or at the tombstone bound.
+fn base(r: &mut Random, size: u8, wild: Wild) -> u64 {
+    match r.below(8) {
+        _ if wild == Wild::Tame => tame(r, size),
+        0 => top(size) - r.below(5),
+        1 | 2 => top(size) - r.below(0x80),
+        3 | 4 => number(r, size),
+        _ => tame(r, size),
+    }
+}
+
+fn some_version(r: &mut Random) -> u16 {
+    match r.below(32) {
+        0 => r.pick(&[0, 1, 7, 0xffff]),
+        1..=3 => 2,
+        4..=6 => 3,
+        7..=13 => 4,
+        14..=17 => 6,
+        _ => 5,
+    }
+}
+
+/// An address table's bytes, its base, and its number of entries.
+fn table(r: &mut Random, size: u8, big_endian: bool, wild: Wild) -> (Vec<u8>, u64, u64) {
+    let mut w = Writer { out: Vec::new(), big_endian };
+    if r.one_in(1, 12) {
+        return (w.out, r.pick(&[0, 0, 1, 8]), 0);
+    }
+    let count = r.below(9);
+    if r.one_in(3, 4) {
+        let dwarf64 = r.one_in(1, 4);
+        let length = 4 + count * u64::from(size);
+        if dwarf64 {
+            w.fixed(0xffffffff, 4);
+        }
+        w.fixed(length, if dwarf64 { 8 } else { 4 });
+        w.fixed(5, 2);
+        w.fixed(u64::from(size), 1);
+        w.fixed(0, 1);
+    }
+    let start = w.out.len() as u64;
+    let mut address = tame(r, size);
+    for _ in 0..count {
+        w.fixed(address, size);
+        address = if wild == Wild::Tame || r.one_in(1, 2) {
+            address.wrapping_add(1 + r.below(0x20))
+        } else {
+            base(r, size, wild)
+        };
+    }
+    // A cut last row, or bytes behind the table.
+    match r.below(8) {
+        0 => drop(w.out.pop()),
+        1 => {
+            let more = r.below(9);
+            w.out.extend(r.bytes(more));
+        }
+        _ => {}
+    }
+    let length = w.out.len() as u64;
+    let at = if wild == Wild::Tame || r.one_in(7, 8) {
+        start
+    } else {
+        match r.below(5) {
+            0 => 0,
+            1 => length,
+            2 => length + 1,
+            3 => number(r, 8),
+            _ => r.below(length + 1),
+        }
+    };
+    (w.out, at, count)
+}
+
+/// Cuts, changes, takes out and puts in bytes.
+fn damage(r: &mut Random, bytes: &mut Vec<u8>) {
+    for _ in 0..1 + r.below(3) {
+        if bytes.is_empty() {
+            return;
+        }
+        let at = r.below(bytes.len() as u64) as usize;
+        match r.below(6) {
+            0 => bytes.truncate(at),
+            1 => bytes[at] ^= 1 << r.below(8),
+            2 => bytes[at] = r.pick(&[0, 1, 2, 4, 7, 8, 9, 0x7f, 0x80, 0xfe, 0xff]),
+            3 => bytes[at] = r.next() as u8,
+            4 => drop(bytes.remove(at)),
+            _ => bytes.insert(at, r.next() as u8),
+        }
+    }
+}
+
+/// A list, plain or damaged, with what its reading depends on.
+pub fn list_case(r: &mut Random) -> ListCase {
+    let wild = r.pick(&[Wild::Tame, Wild::Edges, Wild::Edges, Wild::Broken]);
+    let size = r.pick(&SIZES);
+    let big_endian = r.one_in(1, 2);
+    let (table, table_base, count) = table(r, size, big_endian, wild);
+    let mut list = ListCase {
+        kind: r.pick(&KINDS),
+        old: Vec::new(),
+        new: Vec::new(),
+        offset: 0,
+        version: some_version(r),
+        address_size: size,
+        dwarf64: r.one_in(1, 4),
+        big_endian,
+        base_address: base(r, size, wild),
+        table,
+        table_base,
+    };
+    let before = r.below(3) * r.below(12);
+    let mut w = Writer { out: r.bytes(before), big_endian };
+    let bare = list.version <= 4 && list.kind != Kind::SplitLocations;
+    let entries = match r.below(400) {
+        0 => 1000 + r.below(60),
+        1..=20 => 20 + r.below(60),
+        _ => r.below(9),
+    };
+    for _ in 0..entries {
+        if wild == Wild::Broken && r.one_in(1, 40) {
+            // A kind that doesn't exist, or an end mark on the way.
+            w.out.push(r.pick(&[0, 8, 9, 10, 0x10, 0x7f, 0x80, 0xff]));
+        }
+        if bare {
+            bare_entry(&mut w, r, &list, wild);
+        } else {
+            kind_entry(&mut w, r, &list, count, wild);
+        }
+    }
+    if r.one_in(7, 8) {
+        let end = if bare { 2 * usize::from(size) } else { 1 };
+        w.out.extend(vec![0; end]);
+    }
+    if r.one_in(1, 3) {
+        let after = r.below(12);
+        w.out.extend(r.bytes(after));
+    }
+    if wild == Wild::Broken && r.one_in(1, 2) || r.one_in(1, 16) {
+        damage(r, &mut w.out);
+    }
+    let length = w.out.len() as u64;
+    list.offset = match r.below(64) {
+        0 => length,
+        1 => length + 1,
+        2 => r.pick(&[1 << 32, 1 << 63, u64::MAX, u64::MAX - 1]),
+        3 => r.below(length + 1),
+        4 => number(r, 4),
+        _ => before,
+    };
+    // The section that isn't chosen holds something else.
+    let other_length = r.below(24);
+    let other = r.bytes(other_length);
+    (list.old, list.new) = if list.version <= 4 { (w.out, other) } else { (other, w.out) };
+    list
+}
+
+/// Raw entries made by hand, also with numbers wider than the address size.
+pub fn convert_case(r: &mut Random) -> ConvertCase {
+    let mut list = list_case(r);
+    let length = if list.version <= 4 { list.old.len() } else { list.new.len() } as u64;
+    list.offset = r.below(length + 1);
+    let count = list.table.len() as u64 / u64::from(list.address_size);
+    let entries = (0..1 + r.below(12)).map(|_| {
+        let size = list.address_size;
+        let located = list.kind != Kind::Ranges;
+        let form =
+            r.pick(if located { &[0, 1, 2, 3, 4, 5, 6, 7, 8] } else { &[0, 1, 2, 3, 4, 5, 7, 8] });
+        let (begin, end) = pair(r, size, Wild::Edges);
+        let offset = r.below(length + 1);
+        let expression = (offset, r.below(length - offset + 1));
+        let (first, second) = match form {
+            1 => (base(r, size, Wild::Edges), 0),
+            2 => (index(r, count, size, Wild::Edges), 0),
+            3 => (index(r, count, size, Wild::Edges), index(r, count, size, Wild::Edges)),
+            4 => (index(r, count, size, Wild::Edges), some_number(r, size, Wild::Edges)),
+            6 => (0, 0),
+            8 => (begin, some_number(r, size, Wild::Edges)),
+            _ => (begin, end),
+        };
+        RawCase { form, first, second, expression }
+    });
+    let entries = entries.collect();
+    ConvertCase { list, entries }
+}
+
+/// An address lookup; other sizes are among them.
+pub fn address_case(r: &mut Random) -> AddressCase {
+    let size = r.pick(&SIZES);
+    let big_endian = r.one_in(1, 2);
+    let (table, base, count) = table(r, size, big_endian, Wild::Edges);
+    let address_size = if r.one_in(1, 8) { r.next() as u8 >> r.below(8) } else { size };
+    let index = index(r, count, address_size.max(1), Wild::Edges);
+    AddressCase { table, big_endian, address_size, base, index }
+}
+
+/// A header with its tail, good or with one field off. `count` is the field
+/// that only a lists section has.
+fn header(
+    w: &mut Writer,
+    r: &mut Random,
+    size: u8,
+    dwarf64: bool,
+    count: Option<u32>,
+    tail: &[u8],
+) {
+    let fault = if r.one_in(1, 2) { r.below(7) } else { 9 };
+    let rest = 4 + if count.is_some() { 4 } else { 0 } + tail.len() as u64;
+    if fault == 0 {
+        w.fixed(0xfffffff0 + r.below(16), 4);
+    } else if dwarf64 {
+        w.fixed(0xffffffff, 4);
+    }
+    let length = match (fault, r.below(5)) {
+        (1, 0) => rest - 1,
+        (1, 1) => rest + 1,
+        (1, 2) => r.below(rest),
+        (1, 3) => number(r, 4),
+        (1, _) => r.pick(&[0xffffffef, 0xffffffff, 1 << 63, u64::MAX, u64::MAX - 11]),
+        _ => rest,
+    };
+    w.fixed(length, if dwarf64 { 8 } else { 4 });
+    w.fixed(if fault == 2 { r.pick(&[0, 2, 4, 6, 0x500, 0xffff]) } else { 5 }, 2);
+    let size = if fault == 3 { r.pick(&[0, 3, 5, 6, 7, 9, 16, 255]) } else { size };
+    w.fixed(u64::from(size), 1);
+    w.fixed(if fault == 4 { r.pick(&[1, 2, 4, 128, 255]) } else { 0 }, 1);
+    if let Some(count) = count {
+        w.fixed(u64::from(count), 4);
+    }
+    w.out.extend(tail);
+    if fault == 5 {
+        damage(r, &mut w.out);
+    }
+    if fault == 6 {
+        // Two faults at once: the order of the checks.
+        let at = w.out.len().saturating_sub(tail.len() + 8);
+        for byte in w.out.iter_mut().skip(at).take(8) {
+            if r.one_in(1, 3) {
+                *byte = r.pick(&[0, 1, 3, 5, 255]);
+            }
+        }
+    }
+}
+
+/// Address tables, one behind the other.
+pub fn tables_case(r: &mut Random) -> SectionCase {
+    let big_endian = r.one_in(1, 2);
+    let mut w = Writer { out: Vec::new(), big_endian };
+    for _ in 0..r.below(4) {
+        let size = r.pick(&SIZES);
+        let count = r.below(5) * u64::from(size) + r.pick(&[0, 0, 0, 0, 0, 0, 1, 3]);
+        let tail = r.bytes(count);
+        let dwarf64 = r.one_in(1, 3);
+        header(&mut w, r, size, dwarf64, None, &tail);
+    }
+    if r.one_in(1, 8) {
+        let more = r.below(9);
+        w.out.extend(r.bytes(more));
+    }
+    SectionCase { section: w.out, big_endian }
+}
+
+/// A lists section's header.
+pub fn lists_case(r: &mut Random) -> SectionCase {
+    let big_endian = r.one_in(1, 2);
+    let mut w = Writer { out: Vec::new(), big_endian };
+    let tail_length = r.below(20);
+    let tail = r.bytes(tail_length);
+    let count = r.next() as u32 >> r.below(32);
+    let (size, dwarf64) = (r.pick(&SIZES), r.one_in(1, 2));
+    header(&mut w, r, size, dwarf64, Some(count), &tail);
+    if r.one_in(1, 4) {
+        let more = r.below(9);
+        w.out.extend(r.bytes(more));
+    }
+    if r.one_in(1, 6) {
+        let cut = r.below(w.out.len() as u64 + 1) as usize;
+        w.out.truncate(cut);
+    }
+    SectionCase { section: w.out, big_endian }
+}
+
+/// A lookup of a list's offset.
+pub fn offset_case(r: &mut Random) -> OffsetCase {
+    let (big_endian, dwarf64) = (r.one_in(1, 2), r.one_in(1, 2));
+    let word = if dwarf64 { 8 } else { 4 };
+    let mut w = Writer { out: Vec::new(), big_endian };
+    let start = if r.one_in(3, 4) { if dwarf64 { 20 } else { 12 } } else { r.below(30) };
+    w.out = r.bytes(start);
+    let count = r.below(6);
+    for _ in 0..count {
+        let offset = if r.one_in(2, 3) { r.below(0x400) } else { number(r, word) };
+        w.fixed(offset, word);
+    }
+    if r.one_in(1, 6) {
+        w.out.pop();
+    }
+    let length = w.out.len() as u64;
+    let base = match r.below(12) {
+        0 => length,
+        1 => length + 1,
+        2 => number(r, 8),
+        3 => r.below(length + 1),
+        _ => start,
+    };
+    let index = index(r, count, word, Wild::Edges);
+    OffsetCase { kind: r.pick(&KINDS[..2]), section: w.out, big_endian, dwarf64, base, index }
+}
+
+/// Bytes read as an unsigned LEB128 number.
+pub fn leb128_case(r: &mut Random) -> Vec<u8> {
+    let mut w = Writer { out: Vec::new(), big_endian: false };
+    match r.below(4) {
+        0 => {
+            let value = number(r, 8);
+            w.number(r, value, Wild::Broken);
+        }
+        1 => {
+            // Nine bytes that go on, then any tenth.
+            w.out = r.bytes(9).iter().map(|byte| byte | 0x80).collect();
+            w.out.push(if r.one_in(1, 2) { r.below(4) as u8 } else { r.next() as u8 });
+        }
+        2 => {
+            let length = r.below(13);
+            w.out = r.bytes(length);
+            for byte in &mut w.out {
+                *byte |= if r.one_in(3, 4) { 0x80 } else { 0 };
+            }
+        }
+        _ => {
+            let value = number(r, 8);
+            w.leb128(value, 1 + r.below(10) as usize);
+            let cut = r.below(w.out.len() as u64 + 1) as usize;
+            w.out.truncate(cut);
+        }
+    }
+    let more = r.below(4);
+    w.out.extend(r.bytes(more));
+    w.out
+}
+
+/// Bytes for the fixed-width reads, and a count to skip, split or keep.
+pub fn bytes_case(r: &mut Random) -> BytesCase {
+    let length = r.below(16);
+    let mut bytes = r.bytes(length);
+    if r.one_in(1, 3) {
+        let high = r.pick(&[0xef, 0xf0, 0xf1, 0xfe, 0xff]);
+        bytes.iter_mut().take(4).for_each(|byte| *byte = 0xff);
+        let at = r.pick(&[0, 3]);
+        if let Some(byte) = bytes.get_mut(at) {
+            *byte = high;
+        }
+    }
+    let length = bytes.len() as u64;
+    let count = match r.below(4) {
+        0 => number(r, 8),
+        1 => length + r.below(2),
+        _ => r.below(length + 1),
+    };
+    BytesCase { bytes, big_endian: r.one_in(1, 2), width: r.pick(&SIZES), count }
+}

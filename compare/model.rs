@@ -1,0 +1,417 @@
+//! Document 01's rules, read straight off the page: a second reader to try the
+//! comparison with, and to see whether gimli's answers and the page agree.
+//! Slow and short; it shares nothing with gimli's code.
+
+use crate::differ::Port;
+use oracle::oracle_api::{
+    Answer, Converted, Form, Kind, List, Lists, Place, Raw, Refusal, State, Table, Yielded,
+};
+
+pub struct Model;
+
+type Got<T> = Result<T, Refusal>;
+
+fn no<T>(number: u8, value: u64) -> Got<T> {
+    Err(Refusal { number, value })
+}
+
+/// Bytes with a place that moves on.
+#[derive(Clone, Copy)]
+struct Bytes<'a> {
+    all: &'a [u8],
+    at: usize,
+    big: bool,
+}
+
+impl<'a> Bytes<'a> {
+    fn at(all: &'a [u8], offset: u64, big: bool) -> Got<Bytes<'a>> {
+        if offset > all.len() as u64 {
+            return no(1, 0);
+        }
+        Ok(Bytes { all, at: offset as usize, big })
+    }
+
+    fn part(&mut self, count: u64) -> Got<&'a [u8]> {
+        let start = self.at;
+        if count > (self.all.len() - start) as u64 {
+            return no(1, 0);
+        }
+        self.at += count as usize;
+        Ok(&self.all[start..self.at])
+    }
+
+    fn fixed(&mut self, width: u8) -> Got<u64> {
+        let part = self.part(u64::from(width))?;
+        let byte = |i: usize| u64::from(part[if self.big { part.len() - 1 - i } else { i }]);
+        Ok((0..part.len()).map(|i| byte(i) << (8 * i)).sum())
+    }
+
+    fn leb128(&mut self) -> Got<u64> {
+        let mut sum = 0;
+        for i in 0..10 {
+            let byte = self.fixed(1)?;
+            if i == 9 && byte > 1 {
+                return no(2, 0);
+            }
+            sum += (byte & 0x7f) << (7 * i);
+            if byte < 0x80 {
+                break;
+            }
+        }
+        Ok(sum)
+    }
+
+    fn address(&mut self, size: u8) -> Got<u64> {
+        if lawful(size) { self.fixed(size) } else { no(6, u64::from(size)) }
+    }
+
+    fn initial_length(&mut self) -> Got<(u64, bool)> {
+        match self.fixed(4)? {
+            0xffffffff => Ok((self.fixed(8)?, true)),
+            value @ 0xfffffff0.. => no(8, value),
+            length => Ok((length, false)),
+        }
+    }
+
+    /// Initial length, the section cut to it, version, address size, segment
+    /// size. Gives length, format, size, and where the cut is.
+    fn header(&mut self) -> Got<(u64, bool, u8, usize)> {
+        let (length, dwarf64) = self.initial_length()?;
+        let end = Bytes { ..*self }.part(length).map(|part| self.at + part.len())?;
+        let mut cut = Bytes { all: &self.all[..end], ..*self };
+        let version = cut.fixed(2)?;
+        if version != 5 {
+            return no(5, version);
+        }
+        let size = cut.fixed(1)? as u8;
+        if !lawful(size) {
+            return no(6, u64::from(size));
+        }
+        let segment = cut.fixed(1)?;
+        if segment != 0 {
+            return no(7, segment);
+        }
+        self.at = cut.at;
+        Ok((length, dwarf64, size, end))
+    }
+}
+
+fn lawful(size: u8) -> bool {
+    [1, 2, 4, 8].contains(&size)
+}
+
+/// Before all else on a walk.
+fn walkable(list: &List) -> Got<()> {
+    if lawful(list.address_size) { Ok(()) } else { no(6, u64::from(list.address_size)) }
+}
+
+/// 2^(8 × size).
+fn beyond(size: u8) -> u128 {
+    1 << (8 * u32::from(size))
+}
+
+fn bound(size: u8) -> u64 {
+    (beyond(size) - 2) as u64
+}
+
+fn sum(a: u64, b: u64, size: u8) -> u64 {
+    ((u128::from(a) + u128::from(b)) % beyond(size)) as u64
+}
+
+/// The operands of a kind.
+#[derive(Clone, Copy)]
+enum Operand {
+    Leb,
+    Address,
+    /// Kind 3's length: four bytes in split lists up to version 4.
+    Length,
+}
+
+/// Document 01's table of kinds, in the numbers of locations: form, operands,
+/// and whether an expression follows.
+fn kind(code: u64) -> Option<(Form, &'static [Operand], bool)> {
+    use Operand::*;
+    Some(match code {
+        1 => (Form::BaseIndex, &[Leb], false),
+        2 => (Form::StartEndIndex, &[Leb, Leb], true),
+        3 => (Form::StartLengthIndex, &[Leb, Length], true),
+        4 => (Form::OffsetPair, &[Leb, Leb], true),
+        5 => (Form::Default, &[], true),
+        6 => (Form::Base, &[Address], false),
+        7 => (Form::StartEnd, &[Address, Address], true),
+        8 => (Form::StartLength, &[Address, Leb], true),
+        _ => return None,
+    })
+}
+
+fn chosen<'a>(list: &List<'a>) -> &'a [u8] {
+    if list.version <= 4 { list.old } else { list.new }
+}
+
+fn expression(bytes: &mut Bytes, old: bool) -> Got<Option<Place>> {
+    let length = if old { bytes.fixed(2)? } else { bytes.leb128()? };
+    let offset = bytes.at as u64;
+    bytes.part(length)?;
+    Ok(Some(Place { offset, length }))
+}
+
+/// A raw entry, or none for the end mark.
+fn raw(list: &List, bytes: &mut Bytes) -> Got<Option<Raw>> {
+    let (size, old, located) = (list.address_size, list.version <= 4, list.kind != Kind::Ranges);
+    if old && list.kind != Kind::SplitLocations {
+        let (first, second) = (bytes.address(size)?, bytes.address(size)?);
+        if (first, second) == (0, 0) {
+            return Ok(None);
+        }
+        if u128::from(first) == beyond(size) - 1 {
+            return Ok(Some(Raw { form: Form::Base, first: second, second: 0, expression: None }));
+        }
+        let expression = if located { expression(bytes, true)? } else { None };
+        return Ok(Some(Raw { form: Form::BarePair, first, second, expression }));
+    }
+    let code = bytes.fixed(1)?;
+    if code == 0 {
+        return Ok(None);
+    }
+    // Range kinds have no default: from 5 on they are one lower.
+    let known = kind(if located || code < 5 { code } else { code + 1 });
+    let Some((form, operands, described)) = known else {
+        return no(if located { 4 } else { 3 }, code);
+    };
+    let mut numbers = [0; 2];
+    for (number, operand) in numbers.iter_mut().zip(operands) {
+        *number = match operand {
+            Operand::Address => bytes.address(size)?,
+            Operand::Length if located && old => bytes.fixed(4)?,
+            Operand::Length | Operand::Leb => bytes.leb128()?,
+        };
+    }
+    let expression = if located && described { expression(bytes, old)? } else { None };
+    let [first, second] = numbers;
+    Ok(Some(Raw { form, first, second, expression }))
+}
+
+/// A range, or none for a base or a skipped range.
+fn convert(list: &List, base: &mut u64, entry: Raw) -> Got<Option<Yielded>> {
+    let size = list.address_size;
+    let look = |index| address(list.table, list.big_endian, size, list.table_base, index);
+    let (first, second) = (entry.first, entry.second);
+    let (begin, end) = match entry.form {
+        Form::Base => {
+            *base = first;
+            return Ok(None);
+        }
+        Form::BaseIndex => {
+            *base = look(first)?;
+            return Ok(None);
+        }
+        Form::BarePair | Form::OffsetPair => {
+            if *base >= bound(size) {
+                return Ok(None);
+            }
+            (sum(*base, first, size), sum(*base, second, size))
+        }
+        Form::StartEndIndex => (look(first)?, look(second)?),
+        Form::StartLengthIndex => {
+            let begin = look(first)?;
+            (begin, sum(begin, second, size))
+        }
+        Form::Default => (0, u64::MAX),
+        Form::StartEnd => (first, second),
+        Form::StartLength => (first, sum(first, second, size)),
+    };
+    if begin >= bound(size) || begin >= end {
+        return Ok(None);
+    }
+    Ok(Some(Yielded { begin, end, expression: entry.expression }))
+}
+
+fn address(table: &[u8], big: bool, size: u8, base: u64, index: u64) -> Got<u64> {
+    let mut bytes = Bytes::at(table, base, big)?;
+    let Some(skip) = index.checked_mul(u64::from(size)) else { return no(9, 0) };
+    bytes.part(skip)?;
+    bytes.address(size)
+}
+
+fn rest(bytes: &Bytes) -> Place {
+    Place { offset: bytes.at as u64, length: (bytes.all.len() - bytes.at) as u64 }
+}
+
+fn whole(bytes: &[u8], big: bool) -> Bytes<'_> {
+    Bytes { all: bytes, at: 0, big }
+}
+
+impl Port for Model {
+    fn open(&self, list: &List) -> Result<State, Refusal> {
+        walkable(list)?;
+        Bytes::at(chosen(list), list.offset, list.big_endian)?;
+        Ok(State { place: list.offset, base_address: list.base_address })
+    }
+
+    fn next(&self, list: &List, mut walk: State) -> (Answer<Yielded>, State) {
+        loop {
+            let (answer, after) = self.next_raw(list, walk);
+            walk = after;
+            let entry = match answer {
+                Answer::Entry(entry) => entry,
+                Answer::End => return (Answer::End, walk),
+                Answer::Refused(refusal) => return (Answer::Refused(refusal), walk),
+            };
+            match self.convert_raw(list, walk, entry) {
+                (Converted::Entry(entry), after) => return (Answer::Entry(entry), after),
+                (Converted::Nothing, after) => walk = after,
+                (Converted::Refused(refusal), after) => return (Answer::Refused(refusal), after),
+            }
+        }
+    }
+
+    fn next_raw(&self, list: &List, walk: State) -> (Answer<Raw>, State) {
+        let section = chosen(list);
+        let length = section.len() as u64;
+        let emptied = State { place: length, ..walk };
+        if let Err(refusal) = walkable(list) {
+            return (Answer::Refused(refusal), emptied);
+        }
+        if walk.place >= length {
+            return (Answer::End, walk);
+        }
+        let mut bytes = Bytes { all: section, at: walk.place as usize, big: list.big_endian };
+        match raw(list, &mut bytes) {
+            Ok(Some(entry)) => (Answer::Entry(entry), State { place: bytes.at as u64, ..walk }),
+            Ok(None) => (Answer::End, emptied),
+            Err(refusal) => (Answer::Refused(refusal), emptied),
+        }
+    }
+
+    fn convert_raw(&self, list: &List, mut walk: State, entry: Raw) -> (Converted, State) {
+        let base = &mut walk.base_address;
+        let converted = match walkable(list).and_then(|()| convert(list, base, entry)) {
+            Ok(Some(entry)) => Converted::Entry(entry),
+            Ok(None) => Converted::Nothing,
+            Err(refusal) => Converted::Refused(refusal),
+        };
+        (converted, walk)
+    }
+
+    fn get_address(&self, table: &[u8], big: bool, size: u8, base: u64, index: u64) -> Got<u64> {
+        address(table, big, size, base, index)
+    }
+
+    fn next_table(&self, section: &[u8], big: bool, place: u64) -> (Answer<Table>, u64) {
+        let length = section.len() as u64;
+        if place >= length {
+            return (Answer::End, place);
+        }
+        let mut bytes = Bytes { all: section, at: place as usize, big };
+        match bytes.header() {
+            Ok((stated, dwarf64, address_size, end)) => {
+                let entries = Place { offset: bytes.at as u64, length: (end - bytes.at) as u64 };
+                let table = Table {
+                    offset: place,
+                    length: stated,
+                    dwarf64,
+                    version: 5,
+                    address_size,
+                    entries,
+                };
+                (Answer::Entry(table), end as u64)
+            }
+            Err(refusal) => (Answer::Refused(refusal), length),
+        }
+    }
+
+    fn next_entry(&self, section: &[u8], big: bool, size: u8, left: Place) -> (Answer<u64>, Place) {
+        let end = left.offset + left.length;
+        if left.length == 0 {
+            return (Answer::End, left);
+        }
+        let mut bytes = Bytes { all: &section[..end as usize], at: left.offset as usize, big };
+        match bytes.address(size) {
+            Ok(address) => (Answer::Entry(address), rest(&bytes)),
+            Err(refusal) => (Answer::Refused(refusal), Place { offset: end, length: 0 }),
+        }
+    }
+
+    fn lists_header(&self, section: &[u8], big: bool) -> Got<Lists> {
+        let mut bytes = whole(section, big);
+        let (_, dwarf64, address_size, end) = bytes.header()?;
+        let mut cut = Bytes { all: &section[..end], ..bytes };
+        let entry_count = cut.fixed(4)? as u32;
+        let size = if dwarf64 { 20 } else { 12 };
+        Ok(Lists { dwarf64, version: 5, address_size, entry_count, size, rest: rest(&cut) })
+    }
+
+    fn get_offset(
+        &self,
+        _: Kind,
+        section: &[u8],
+        big: bool,
+        dwarf64: bool,
+        base: u64,
+        index: u64,
+    ) -> Got<u64> {
+        let mut bytes = Bytes::at(section, base, big)?;
+        let word = if dwarf64 { 8 } else { 4 };
+        let Some(skip) = index.checked_mul(word) else { return no(9, 0) };
+        bytes.part(skip)?;
+        let offset = bytes.fixed(word as u8)?;
+        base.checked_add(offset).ok_or(Refusal { number: 9, value: 0 })
+    }
+
+    fn default_base(&self, _: Kind, version: u16, dwarf64: bool, split_file: bool) -> u64 {
+        match (version >= 5 && split_file, dwarf64) {
+            (false, _) => 0,
+            (true, false) => 12,
+            (true, true) => 20,
+        }
+    }
+
+    fn uleb128(&self, bytes: &[u8]) -> Got<(u64, u64)> {
+        let mut bytes = whole(bytes, false);
+        Ok((bytes.leb128()?, bytes.at as u64))
+    }
+
+    fn read_number(&self, bytes: &[u8], big: bool, width: u8) -> Got<(u64, u64)> {
+        Ok((whole(bytes, big).fixed(width)?, u64::from(width)))
+    }
+
+    fn read_address(&self, bytes: &[u8], big: bool, size: u8) -> Got<(u64, u64)> {
+        Ok((whole(bytes, big).address(size)?, u64::from(size)))
+    }
+
+    fn read_offset(&self, bytes: &[u8], big: bool, dwarf64: bool) -> Got<(u64, u64)> {
+        self.read_number(bytes, big, if dwarf64 { 8 } else { 4 })
+    }
+
+    fn initial_length(&self, bytes: &[u8], big: bool) -> Got<(u64, bool, u64)> {
+        let mut bytes = whole(bytes, big);
+        let (length, dwarf64) = bytes.initial_length()?;
+        Ok((length, dwarf64, bytes.at as u64))
+    }
+
+    fn read_address_size(&self, bytes: &[u8]) -> Got<(u8, u64)> {
+        let size = whole(bytes, false).fixed(1)?;
+        if lawful(size as u8) { Ok((size as u8, 1)) } else { no(6, size) }
+    }
+
+    fn skip(&self, bytes: &[u8], count: u64) -> Got<Place> {
+        Ok(rest(&Bytes::at(bytes, count, false)?))
+    }
+
+    fn split(&self, bytes: &[u8], count: u64) -> Got<(Place, Place)> {
+        Ok((Place { offset: 0, length: count }, self.skip(bytes, count)?))
+    }
+
+    fn truncate(&self, bytes: &[u8], length: u64) -> Got<Place> {
+        whole(bytes, false).part(length)?;
+        Ok(Place { offset: 0, length })
+    }
+
+    fn wrapping_add_sized(&self, address: u64, length: u64, size: u8) -> u64 {
+        sum(address, length, size)
+    }
+
+    fn min_tombstone(&self, size: u8) -> u64 {
+        bound(size)
+    }
+}

@@ -1,0 +1,3 @@
+pub mod Words
+pub mod ListWords
+pub mod TableWords
