@@ -3,14 +3,14 @@
 use mathlib.Core.Path.{_≡_, refl, sym, ap, _∙_}
 use mathlib.Core.Bool.{Bool, true, false}
 use mathlib.Core.List.{List, [], _∷_, _++_, append-assoc, append-nil}
-use Prim.Native.Nat.{ℕ, suc, _+_, _-_, _≤_, _<_, min, max}
+use Prim.Native.Nat.{ℕ, zero, suc, _+_, _-_, _≤_, _<_, min, max}
 use native.Mathlib.Nat.{sub-self}
 use native.Mathlib.Numerals.{add-one}
 use native.Mathlib.Omega.{arith}
-use lib.ListN.{length, take, set, replicate, length-take, length-set, replicate-append-replicate}
+use lib.ListN.{length, take, getD, set, replicate, length-take, length-set, length-replicate, replicate-append-replicate}
 use lib.Seq.{take-suc-set, take-all}
 use Rattle.bytes.specs.Read.{Result, gives, refuses}
-use Rattle.bytes.specs.Error.{number, values}
+use Rattle.bytes.specs.Error.{number, values, refusing}
 use Rattle.bytes.specs.declared.error.Error.{Error}
 use Rattle.bytes.specs.declared.error.Error.the-variants.{TooManyRanges}
 use Rattle.lists.specs.Open.{opened}
@@ -20,16 +20,18 @@ use Rattle.lists.specs.declared.Walk.{Walk}
 use Rattle.coverage.specs.Ranges.{Range, Apart, limit, runs}
 use Rattle.coverage.specs.Covered.{mapped, yieldedIn, Source, listed, traceOf, yieldedOf, coverageOf, Bytes}
 use Rattle.coverage.specs.Kept.{paired, padded, keptAs}
-use Rattle.coverage.specs.Gathered.{Stored, toldCollected, Few, RunsApart, Gathered}
-use Rattle.coverage.specs.Sorted.{Sized, first, ToRuns}
+use Rattle.coverage.specs.Gathered.{Stored, Zeros, Blank, toldCollected, RunsApart, Asked, Gathered, toldOutcome}
+use Rattle.coverage.specs.Sorted.{Sized, SameFrom, first, ToRuns}
 use Rattle.coverage.specs.Told.{Answer, answer, made}
 use Rattle.coverage.specs.declared.Coverage.{Coverage}
 use Rattle.coverage.specs.declared.collect.Collected.{Collected}
 use Rattle.coverage.specs.declared.collect.Collected.the-variants as collected
+use Rattle.coverage.specs.declared.collect.Outcome.{Outcome}
 use Rattle.coverage.proofs.CallLaws.{after, gather-none, gather-more, gather-over, gather-lost, gather-many, coverage-opened}
 use Rattle.coverage.proofs.CanonicalLaws.{Small}
 use Rattle.coverage.proofs.RangeLaws.{runs-apart}
 use Rattle.coverage.proofs.CoveredLaws.{Given, yielded-small, small-proper}
+use Rattle.coverage.proofs.SortLaws.{above-set}
 use Rattle.coverage.proofs.KeptLaws.{length-paired, begins-paired, ends-paired}
 
 paired-snoc : (bs es : List ℕ) (b e : ℕ) → length bs ≡ length es → paired (bs ++ (b ∷ [])) (es ++ (e ∷ [])) ≡ paired bs es ++ ((b, e) ∷ [])
@@ -38,15 +40,69 @@ paired-snoc [] (y ∷ es) b e h = absurd (omega arith)
 paired-snoc (x ∷ bs) [] b e h = absurd (omega arith)
 paired-snoc (x ∷ bs) (y ∷ es) b e h = ap (λ (l : List Range). (x, y) ∷ l) (paired-snoc bs es b e (omega arith))
 
+-- ---- zeros
+zero-past : (n p : ℕ) → _≡_ {A = ℕ} (getD (replicate n 0) p 0) 0
+zero-past zero p = refl
+zero-past (suc n) zero = refl
+zero-past (suc n) (suc p) = zero-past n p
+
+blank-zeros : (a : List ℕ) → a ≡ replicate limit 0 → Zeros a 0
+blank-zeros a e p h = rw e (zero-past limit p)
+
+blank-length : (a : List ℕ) → a ≡ replicate limit 0 → length a ≡ limit
+blank-length a e = ap length e ∙ length-replicate {A = ℕ} limit 0
+
+getD-past : (a : List ℕ) (p : ℕ) → length a ≤ p → _≡_ {A = ℕ} (getD a p 0) 0
+getD-past [] p h = refl
+getD-past (x ∷ a) zero h = absurd (omega arith)
+getD-past (x ∷ a) (suc p) h = getD-past a p (omega arith)
+
+pub zeros-past : (a : List ℕ) → length a ≡ limit → Zeros a limit
+zeros-past a l p h = getD-past a p (omega arith)
+
+-- all that stands from a place on is 0
+zeros-tail : (a : List ℕ) (i : ℕ) → Zeros a i → a ≡ take i a ++ replicate (length a - i) 0
+zeros-tail [] zero z = refl
+zeros-tail [] (suc i) z =
+    let e : 0 - suc i ≡ 0 = omega arith in
+    ap (λ (k : ℕ). replicate {A = ℕ} k 0) (sym e)
+zeros-tail (x ∷ a) zero z =
+    let e : x ≡ 0 = z 0 (omega arith) in
+    let f = zeros-tail a 0 (λ p h. z (suc p) (omega arith)) in
+    let u : length a - 0 ≡ length a = omega arith in
+    let v : suc (length a) ≡ suc (length a) - 0 = omega arith in
+    ap (λ (l : List ℕ). x ∷ l) f
+    ∙ ap (λ (k : ℕ). x ∷ replicate {A = ℕ} k 0) u
+    ∙ ap (λ (y : ℕ). y ∷ replicate {A = ℕ} (length a) 0) e
+    ∙ ap (λ (k : ℕ). replicate {A = ℕ} k 0) v
+zeros-tail (x ∷ a) (suc i) z =
+    let e : length a - i ≡ suc (length a) - suc i = omega arith in
+    ap (λ (l : List ℕ). x ∷ l) (zeros-tail a i (λ p h. z (suc p) (omega arith)))
+    ∙ ap (λ (k : ℕ). x ∷ (take i a ++ replicate k 0)) e
+
+-- a store below leaves them, and one at the first of them leaves the others
+zeros-set : (a : List ℕ) (n i x : ℕ) → i < n → Zeros a n → Zeros (set a i x) n
+zeros-set a n i x h z p l = above-set a i x p (omega arith) ∙ z p l
+
+zeros-more : (a : List ℕ) (n x : ℕ) → Zeros a n → Zeros (set a n x) (n + 1)
+zeros-more a n x z p l = above-set a n x p (omega arith) ∙ z p (omega arith)
+
 -- the ranges at the first n places, with those that the list has yet to yield, are all that it yields
 pub record Gathering {D : Type 0} (all : Result (List Range)) (t : Trace D) (bs es : List ℕ) (n : ℕ) : Type 0 where
   pub same : after (first n bs es) (yieldedIn (limit - n) t) ≡ all
   pub few : n ≤ limit
   pub sized : Sized bs es
+  pub rest : Zeros bs n × Zeros es n
 
 module _ {D : Type 0} {t : Trace D} {bs es : List ℕ} where
-  pub gathering-none : Sized bs es → Gathering (yieldedIn limit t) t bs es 0
-  gathering-none s = record { same = sym (gather-none t limit); few = omega arith; sized = s }
+  pub gathering-none : Blank bs es → Gathering (yieldedIn limit t) t bs es 0
+  gathering-none s =
+      record {
+        same = sym (gather-none t limit);
+        few = omega arith;
+        sized = (blank-length bs (s .0), blank-length es (s .1));
+        rest = (blank-zeros bs (s .0), blank-zeros es (s .1));
+      }
 
   module _ {all : Result (List Range)} {n : ℕ} (g : Gathering all t bs es n) where
     more : {b e : ℕ} {d : D} {w : Walk} {u : Trace D} → n < limit → t ≡ gave (item b e d) w u → Gathering all u (set bs n b) (set es n e) (n + 1)
@@ -62,12 +118,13 @@ module _ {D : Type 0} {t : Trace D} {bs es : List ℕ} where
           same = rw p (sym (gather-more t (first n bs es) (limit - (n + 1)) q) ∙ (rw r at (g .same)));
           few = omega arith;
           sized = (length-set bs n b ∙ lb, length-set es n e ∙ le);
+          rest = (zeros-more bs n b (g .rest .0), zeros-more es n e (g .rest .1));
         }
 
     many : {i : Item D} {w : Walk} {u : Trace D} → limit ≤ n → t ≡ gave i w u → Gathered all (collected.Refused TooManyRanges) bs es
     many h q =
         let r : limit - n ≡ 0 = omega arith in
-        record { told = sym (gather-many t (first n bs es) q) ∙ (rw r at (g .same)); few = tt; sized = g .sized }
+        record { told = sym (gather-many t (first n bs es) q) ∙ (rw r at (g .same)); few = tt; sized = g .sized; rest = tt }
 
     module _ {r : Bool} {b e : ℕ} {d : D} {w : Walk} {u : Trace D} {xs ys : List ℕ} (s : Stored r (b, e) n bs es xs ys) (q : t ≡ gave (item b e d) w u) where
       -- a range more, or no room for it
@@ -83,47 +140,55 @@ module _ {D : Type 0} {t : Trace D} {bs es : List ℕ} where
 
     pub gathering-over : {w : Walk} → t ≡ over w → Gathered all (collected.Got n) bs es
     gathering-over q =
-        record { told = sym (gather-over t (first n bs es) (limit - n) q) ∙ g .same; few = g .few; sized = g .sized }
+        record { told = sym (gather-over t (first n bs es) (limit - n) q) ∙ g .same; few = g .few; sized = g .sized; rest = g .rest }
 
     pub gathering-lost : {e : Error} {w : Walk} {u : Trace D} → t ≡ lost (number e) (values e) w u → Gathered all (collected.Refused e) bs es
     gathering-lost q =
-        record { told = sym (gather-lost t (first n bs es) (limit - n) q) ∙ g .same; few = tt; sized = g .sized }
+        record { told = sym (gather-lost t (first n bs es) (limit - n) q) ∙ g .same; few = tt; sized = g .sized; rest = tt }
 
--- an array of which the places from n up to i are 0
-pub record Clearing (a₀ : List ℕ) (n : ℕ) (a : List ℕ) (i : ℕ) : Type 0 where
-  pub same : take i a ≡ take n a₀ ++ replicate (i - n) 0
-  pub low : n ≤ i
-  pub high : i ≤ max n limit
+-- an array of which the places from r up to i are 0, as those from n on are
+pub record Clearing (a₀ : List ℕ) (r n : ℕ) (a : List ℕ) (i : ℕ) : Type 0 where
+  pub same : take i a ≡ take r a₀ ++ replicate (i - r) 0
+  pub low : r ≤ i
+  pub high : i ≤ max r limit
+  pub few : n ≤ limit
   pub sized : length a ≡ limit
   pub was : length a₀ ≡ limit
+  pub rest : Zeros a n
 
-pub clearing-none : {a : List ℕ} {n : ℕ} → length a ≡ limit → Clearing a n a n
-clearing-none {a} {n} h =
-    record { same = rw (sub-self n) (sym (append-nil (take n a))); low = omega arith; high = omega arith; sized = h; was = h }
+pub clearing-none : {a : List ℕ} {r n : ℕ} → n ≤ limit → length a ≡ limit → Zeros a n → Clearing a r n a r
+clearing-none {a} {r} {n} f h z =
+    record { same = rw (sub-self r) (sym (append-nil (take r a))); low = omega arith; high = omega arith; few = f; sized = h; was = h; rest = z }
 
-module _ {a₀ a : List ℕ} {n i : ℕ} (t : Clearing a₀ n a i) where
-  pub clearing-more : i < limit → Clearing a₀ n (set a i 0) (i + 1)
+module _ {a₀ a : List ℕ} {r n i : ℕ} (t : Clearing a₀ r n a i) where
+  pub clearing-more : i < n → Clearing a₀ r n (set a i 0) (i + 1)
   clearing-more h =
       let l = t .sized in
-      let z : (i - n) + 1 ≡ (i + 1) - n = omega arith in
+      let z : (i - r) + 1 ≡ (i + 1) - r = omega (arith, t .low) in
       record {
         same =
-            rw (add-one i) (take-suc-set a i 0 (omega arith))
+            rw (add-one i) (take-suc-set a i 0 (omega (arith, t .few)))
             ∙ ap (λ (x : List ℕ). x ++ (0 ∷ [])) (t .same)
-            ∙ append-assoc (take n a₀) (replicate (i - n) 0) (0 ∷ [])
-            ∙ ap (λ (x : List ℕ). take n a₀ ++ x) (replicate-append-replicate (i - n) 1 0)
-            ∙ ap (λ (k : ℕ). take n a₀ ++ replicate k 0) z;
-        low = omega arith;
-        high = omega arith;
+            ∙ append-assoc (take r a₀) (replicate (i - r) 0) (0 ∷ [])
+            ∙ ap (λ (x : List ℕ). take r a₀ ++ x) (replicate-append-replicate (i - r) 1 0)
+            ∙ ap (λ (k : ℕ). take r a₀ ++ replicate k 0) z;
+        low = omega (arith, t .low);
+        high = omega (arith, t .few);
+        few = t .few;
         sized = length-set a i 0 ∙ l;
         was = t .was;
+        rest = zeros-set a n i 0 h (t .rest);
       }
 
-  pub clearing-done : limit ≤ i → a ≡ padded (take n a₀)
+  pub clearing-done : n ≤ i → a ≡ padded (take r a₀)
   unfolding padded
   clearing-done h =
-      let z : i - n ≡ limit - length (take n a₀) = rw length-take (omega arith) in
-      sym (take-all i a (omega arith)) ∙ t .same ∙ ap (λ (k : ℕ). take n a₀ ++ replicate k 0) z
+      let z : (i - r) + (length a - i) ≡ limit - length (take r a₀) = rw length-take (omega (arith, t .low, t .high, t .sized, t .was)) in
+      zeros-tail a i (λ p l. t .rest p (omega arith))
+      ∙ ap (λ (x : List ℕ). x ++ replicate (length a - i) 0) (t .same)
+      ∙ append-assoc (take r a₀) (replicate (i - r) 0) (replicate (length a - i) 0)
+      ∙ ap (λ (x : List ℕ). take r a₀ ++ x) (replicate-append-replicate (i - r) (length a - i) 0)
+      ∙ ap (λ (k : ℕ). take r a₀ ++ replicate k 0) z
 
 -- two arrays cleared past their first n places keep the ranges there
 pub cleared-kept : (bs es : List ℕ) (n : ℕ) {xs ys : List ℕ} → n ≤ limit → Sized bs es → xs ≡ padded (take n bs) → ys ≡ padded (take n es)
@@ -135,15 +200,38 @@ cleared-kept bs es n h s p q =
     let k = lb ∙ sym le in
     rw (p, q, length-paired (take n bs) (take n es) k, begins-paired (take n bs) (take n es) k, ends-paired (take n bs) (take n es) k, lb)
 
+-- arrays of zeros are those of an outcome that keeps nothing
+pub outcome-blank : (o : Outcome) (bs es : List ℕ) → Blank bs es → toldOutcome o bs es ≡ toldOutcome o (padded []) (padded [])
+unfolding padded
+outcome-blank o bs es b = rw (b .0, b .1)
+
+pub covered-refused : (k : Collected) (bs es : List ℕ) (o : Outcome) {e : Error} {xs ys : List ℕ} → k ≡ collected.Refused e → xs ≡ padded (take 0 bs) → ys ≡ padded (take 0 es)
+    → toldOutcome o (padded []) (padded []) ≡ made (refusing e) → toldOutcome o xs ys ≡ made (mapped runs (toldCollected k bs es))
+covered-refused k bs es o q p r h = rw (q, p, r) h
+
 -- the coverage of ranges gathered, from their runs
-pub covered-got : (k : Collected) (bs es : List ℕ) {xs ys : List ℕ} {n r : ℕ} {c : Coverage} → k ≡ collected.Got n → Few k → RunsApart (toldCollected k bs es)
-    → ToRuns (first (min n limit) bs es) xs ys r → c ≡ keptAs (first r xs ys) → answer (gives tt) c ≡ made (mapped runs (toldCollected k bs es))
-covered-got k bs es {n = n} q f p t e =
-    let few : n ≤ limit = rw q at f in
-    let apart : Apart (runs (first n bs es)) = rw q at p in
-    let m : min n limit ≡ n = omega arith in
-    let x = t .exact (rw m apart) in
-    rw q (ap (answer (gives tt)) (e ∙ ap keptAs (rw m at x)))
+module _ (k : Collected) (bs es : List ℕ) {n : ℕ} (q : k ≡ collected.Got n) (asked : Asked k bs es) where
+  got-few : n ≤ limit
+  got-few = rw q at (asked .0)
+
+  pub got-asks : {xs ys : List ℕ} {r : ℕ} → ToRuns (first (min n limit) bs es) xs ys r → SameFrom (min n limit) bs es xs ys → (n ≤ limit) × Sized xs ys × Zeros xs n × Zeros ys n
+  got-asks t s =
+      let few = got-few in
+      let z : Zeros bs n × Zeros es n = rw q at (asked .3) in (
+        few,
+        t .sized,
+        λ p l. s p (omega arith) .0 ∙ z .0 p l,
+        λ p l. s p (omega arith) .1 ∙ z .1 p l,
+      )
+
+  pub covered-got : {xs ys zs ws : List ℕ} {r : ℕ} → ToRuns (first (min n limit) bs es) xs ys r → zs ≡ padded (take r xs) → ws ≡ padded (take r ys)
+      → answer (gives tt) (record { n = r; begins = zs; ends = ws }) ≡ made (mapped runs (toldCollected k bs es))
+  covered-got {xs} {ys} {r = r} t e f =
+      let few = got-few in
+      let apart : Apart (runs (first n bs es)) = rw q at (asked .2) in
+      let m : min n limit ≡ n = omega arith in
+      let x = t .exact (rw m apart) in
+      rw q (ap (answer (gives tt)) (cleared-kept xs ys r (t .few) (t .sized) e f ∙ ap keptAs (rw m at x)))
 
 -- a list that was opened, and the ranges gathered from its walk
 module _ (x : Source) {w : Walk} (o : opened (x .encoding) (x .section) (x .offset) (x .«base_address») ≡ gives w) where
@@ -162,8 +250,8 @@ module _ (x : Source) {w : Walk} (o : opened (x .encoding) (x .section) (x .offs
   walked-apart b = small-apart walked (rw o at (yielded-small x b))
 
   module _ {k : Collected} {bs es : List ℕ} (g : Gathered walked k bs es) where
-    pub gathered-asks : Bytes x → Few k × Sized bs es × RunsApart (toldCollected k bs es)
-    gathered-asks b = (g .few, g .sized, rw (g .told) (walked-apart b))
+    pub gathered-asks : Bytes x → Asked k bs es
+    gathered-asks b = (g .few, g .sized, rw (g .told) (walked-apart b), g .rest)
 
     pub gathered-made : {a : Answer} → a ≡ made (mapped runs (toldCollected k bs es)) → a ≡ made (coverageOf x)
     unfolding traceOf

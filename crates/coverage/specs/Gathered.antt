@@ -3,11 +3,13 @@ use mathlib.Core.Bool.{Bool, true, false}
 use mathlib.Core.List.{List}
 use mathlib.Core.Path.{_≡_}
 use Prim.Native.Nat.{ℕ, _≤_, _<_}
-use lib.ListN.{set}
+use lib.ListN.{set, getD, replicate}
 use Rattle.bytes.specs.Read.{Result, gives, refuses}
 use Rattle.bytes.specs.Error.{refusing}
 use Rattle.coverage.specs.Ranges.{Range, Apart, limit, runs}
 use Rattle.coverage.specs.Sorted.{Sized, first}
+use Rattle.coverage.specs.Told.{Answer, answer, toldVerdict}
+use Rattle.coverage.specs.declared.collect.Outcome.{Outcome}
 use Rattle.coverage.specs.declared.collect.Collected.{Collected}
 use Rattle.coverage.specs.declared.collect.Collected.the-variants as collected
 
@@ -15,6 +17,14 @@ use Rattle.coverage.specs.declared.collect.Collected.the-variants as col
 abbrev pub Stored : Bool → Range → ℕ → List ℕ → List ℕ → List ℕ → List ℕ → Type 0
 Stored true r n bs es xs ys = (n < limit) × (xs ≡ set bs n (r .0)) × (ys ≡ set es n (r .1))
 Stored false r n bs es xs ys = (limit ≤ n) × (xs ≡ bs) × (ys ≡ es)
+
+-- 0 at the places from n on
+abbrev pub Zeros : List ℕ → ℕ → Type 0
+Zeros a n = (p : ℕ) → n ≤ p → getD a p 0 ≡ 0
+
+-- two arrays of zeros
+abbrev pub Blank : List ℕ → List ℕ → Type 0
+Blank bs es = (bs ≡ replicate limit 0) × (es ≡ replicate limit 0)
 
 -- as many ranges as were counted, from the front of two arrays, or the refusal
 abbrev pub toldCollected : Collected → List ℕ → List ℕ → Result (List Range)
@@ -31,8 +41,22 @@ abbrev pub RunsApart : Result (List Range) → Type 0
 RunsApart (gives rs) = Apart (runs rs)
 RunsApart (refuses n vs) = Unit
 
+-- 0 at the places past the ranges
+abbrev pub Rest : Collected → List ℕ → List ℕ → Type 0
+Rest (collected.Got n) bs es = Zeros bs n × Zeros es n
+Rest (collected.Refused e) bs es = Unit
+
+-- what is known of ranges gathered before their runs are made
+abbrev pub Asked : Collected → List ℕ → List ℕ → Type 0
+Asked r bs es = Few r × Sized bs es × RunsApart (toldCollected r bs es) × Rest r bs es
+
 -- the ranges gathered are those that a list yields
 pub record Gathered (yielded : Result (List Range)) (r : Collected) (bs es : List ℕ) : Type 0 where
   pub told : toldCollected r bs es ≡ yielded
   pub few : Few r
   pub sized : Sized bs es
+  pub rest : Rest r bs es
+
+-- an outcome with the two arrays that it was made in
+abbrev pub toldOutcome : Outcome → List ℕ → List ℕ → Answer
+toldOutcome o bs es = answer (toldVerdict (o .verdict)) (record { n = o .n; begins = bs; ends = es })

@@ -27,16 +27,22 @@ ghost use Rattle.lists.specs.Convert.{tableAt};
 ghost use Rattle.lists.specs.Walk.{trace, ranges, locations};
 ghost use Rattle.coverage.specs.Ranges.{limit, runs};
 ghost use Rattle.coverage.specs.Covered.{mapped, yieldedIn, rangeList, locationList, source, coverageOf};
-ghost use Rattle.coverage.specs.Kept.{padded, keptAs};
+ghost use Rattle.coverage.specs.Kept.{padded};
 ghost use Rattle.coverage.specs.Told.{made, toldMade};
 ghost use Rattle.coverage.specs.Canonical.{readBack};
-ghost use Rattle.coverage.specs.Sorted.{Sized, first};
-ghost use Rattle.coverage.specs.Gathered.{Stored, toldCollected, Few, RunsApart, Gathered};
+ghost use Rattle.coverage.specs.Sorted.{Sized};
+ghost use Rattle.coverage.specs.Gathered.{Stored, Zeros, Blank, toldCollected, Asked, Gathered, toldOutcome};
 
 // How many ranges were gathered.
 pub enum Collected {
     Got(usize),
     Refused(Error),
+}
+
+// What was made in two lent arrays: the verdict, and how many runs.
+pub struct Outcome {
+    pub verdict: Verdict,
+    pub n: usize,
 }
 
 // A range stored behind n others, if there is room for it.
@@ -65,7 +71,7 @@ fn collect_ranges(
     ends: &mut [u64; LIMIT],
 ) -> Collected
     requires { ⌜ isSize (encoding .«address_size») ≡ true ⌝ }
-    requires { ⌜ Sized (now begins) (now ends) ⌝ }
+    requires { ⌜ Blank (now begins) (now ends) ⌝ }
     ensures { λ r. ⌜ Gathered (yieldedIn limit (trace (ranges encoding endian (now (section .entry))) (tableAt endian encoding «debug_addr_base» (now («debug_addr» .entry))) (encoding .«address_size») (length (now (section .entry))) start)) r (now (begins .exit)) (now (ends .exit)) ⌝ }
 {
     let mut walk = start;
@@ -103,7 +109,7 @@ fn collect_locations(
     ends: &mut [u64; LIMIT],
 ) -> Collected
     requires { ⌜ isSize (encoding .«address_size») ≡ true ⌝ }
-    requires { ⌜ Sized (now begins) (now ends) ⌝ }
+    requires { ⌜ Blank (now begins) (now ends) ⌝ }
     ensures { λ r. ⌜ Gathered (yieldedIn limit (trace (locations split encoding endian (now (section .entry))) (tableAt endian encoding «debug_addr_base» (now («debug_addr» .entry))) (encoding .«address_size») (length (now (section .entry))) start)) r (now (begins .exit)) (now (ends .exit)) ⌝ }
 {
     let mut walk = start;
@@ -137,60 +143,115 @@ fn collect_locations(
     }
 }
 
-// The places from n on, set to 0.
-fn clear(a: &mut [u64; LIMIT], n: usize)
-    requires { ⌜ length (now a) ≡ limit ⌝ }
-    ensures { λ _. ⌜ now (a .exit) ≡ padded (take n (now (a .entry))) ⌝ }
+// The places from r up to n, set to 0, where those from n on are 0 already.
+fn clear(a: &mut [u64; LIMIT], r: usize, n: usize)
+    requires { ⌜ (n ≤ limit) × (length (now a) ≡ limit) × Zeros (now a) n ⌝ }
+    ensures { λ _. ⌜ now (a .exit) ≡ padded (take r (now (a .entry))) ⌝ }
 {
-    let mut i = n;
-    while i < LIMIT {
+    let mut i = r;
+    while i < n {
         a[i] = 0;
         i += 1;
     }
 }
 
-// The coverage of the first n places, 0 past them.
-fn finish(begins: &mut [u64; LIMIT], ends: &mut [u64; LIMIT], n: usize) -> Coverage
-    requires { ⌜ (n ≤ limit) × Sized (now begins) (now ends) ⌝ }
-    ensures { λ r. ⌜ r ≡ keptAs (first n (now (begins .entry)) (now (ends .entry))) ⌝ }
-{
-    clear(begins, n);
-    clear(ends, n);
-    Coverage {
-        n,
-        begins: *begins,
-        ends: *ends,
-    }
-}
-
 // A refusal keeps nothing.
-fn refused(e: Error) -> Made
-    ensures { λ r. ⌜ toldMade r ≡ made (refusing e) ⌝ }
+fn refused(e: Error) -> Outcome
+    ensures { λ r. ⌜ toldOutcome r (padded []) (padded []) ≡ made (refusing e) ⌝ }
 {
-    Made {
+    Outcome {
         verdict: Verdict::Refused(e),
-        coverage: Coverage {
-            n: 0,
-            begins: [0u64; LIMIT],
-            ends: [0u64; LIMIT],
-        },
+        n: 0,
     }
 }
 
-// The coverage of the ranges gathered: their runs.
-fn covered(collected: Collected, begins: &mut [u64; LIMIT], ends: &mut [u64; LIMIT]) -> Made
-    requires { ⌜ Few collected × Sized (now begins) (now ends) × RunsApart (toldCollected collected (now begins) (now ends)) ⌝ }
-    ensures { λ r. ⌜ toldMade r ≡ made (mapped runs (toldCollected collected (now (begins .entry)) (now (ends .entry)))) ⌝ }
+// The coverage of the ranges gathered: their runs, which are then the first places, 0 past them.
+fn covered(collected: Collected, begins: &mut [u64; LIMIT], ends: &mut [u64; LIMIT]) -> Outcome
+    requires { ⌜ Asked collected (now begins) (now ends) ⌝ }
+    ensures { λ r. ⌜ toldOutcome r (now (begins .exit)) (now (ends .exit)) ≡ made (mapped runs (toldCollected collected (now (begins .entry)) (now (ends .entry)))) ⌝ }
 {
     match collected {
-        Collected::Refused(e) => refused(e),
+        Collected::Refused(e) => {
+            clear(begins, 0, LIMIT);
+            clear(ends, 0, LIMIT);
+            refused(e)
+        }
         Collected::Got(n) => {
             let r = super::sort::to_runs(begins, ends, n);
-            let coverage = finish(begins, ends, r);
-            Made {
+            clear(begins, r, n);
+            clear(ends, r, n);
+            Outcome {
                 verdict: Verdict::Made,
-                coverage,
+                n: r,
             }
+        }
+    }
+}
+
+// The coverage of the range list at an offset, in two arrays of zeros.
+fn cover_ranges(
+    section: &[u8],
+    debug_addr: &[u8],
+    debug_addr_base: DebugAddrBase,
+    offset: RangeListsOffset,
+    base_address: u64,
+    encoding: Encoding,
+    endian: RunTimeEndian,
+    begins: &mut [u64; LIMIT],
+    ends: &mut [u64; LIMIT],
+) -> Outcome
+    requires { ⌜ Blank (now begins) (now ends) ⌝ }
+    ensures { λ r. ⌜ toldOutcome r (now (begins .exit)) (now (ends .exit)) ≡ made (coverageOf (source rangeList encoding endian (now (section .entry)) (offset .0) «base_address» (now («debug_addr» .entry)) «debug_addr_base»)) ⌝ }
+{
+    match lists::rnglists::ranges(section, offset, encoding, base_address) {
+        Opened::Refused(e) => refused(e),
+        Opened::List(start) => {
+            let collected = collect_ranges(
+                section,
+                debug_addr,
+                debug_addr_base,
+                start,
+                encoding,
+                endian,
+                begins,
+                ends,
+            );
+            covered(collected, begins, ends)
+        }
+    }
+}
+
+// The same of a location list, plain or split.
+fn cover_locations(
+    section: &[u8],
+    debug_addr: &[u8],
+    debug_addr_base: DebugAddrBase,
+    offset: LocationListsOffset,
+    base_address: u64,
+    encoding: Encoding,
+    endian: RunTimeEndian,
+    split: bool,
+    begins: &mut [u64; LIMIT],
+    ends: &mut [u64; LIMIT],
+) -> Outcome
+    requires { ⌜ Blank (now begins) (now ends) ⌝ }
+    ensures { λ r. ⌜ toldOutcome r (now (begins .exit)) (now (ends .exit)) ≡ made (coverageOf (source (locationList split) encoding endian (now (section .entry)) (offset .0) «base_address» (now («debug_addr» .entry)) «debug_addr_base»)) ⌝ }
+{
+    match lists::loclists::locations(section, offset, encoding, base_address) {
+        Opened::Refused(e) => refused(e),
+        Opened::List(start) => {
+            let collected = collect_locations(
+                section,
+                debug_addr,
+                debug_addr_base,
+                start,
+                encoding,
+                endian,
+                split,
+                begins,
+                ends,
+            );
+            covered(collected, begins, ends)
         }
     }
 }
@@ -207,23 +268,27 @@ pub fn range_coverage(
 ) -> Made
     ensures { λ r. ⌜ toldMade r ≡ made (coverageOf (source rangeList encoding endian (now (section .entry)) (offset .0) «base_address» (now («debug_addr» .entry)) «debug_addr_base»)) ⌝ }
 {
-    match lists::rnglists::ranges(section, offset, encoding, base_address) {
-        Opened::Refused(e) => refused(e),
-        Opened::List(start) => {
-            let mut begins = [0u64; LIMIT];
-            let mut ends = [0u64; LIMIT];
-            let collected = collect_ranges(
-                section,
-                debug_addr,
-                debug_addr_base,
-                start,
-                encoding,
-                endian,
-                &mut begins,
-                &mut ends,
-            );
-            covered(collected, &mut begins, &mut ends)
-        }
+    let mut begins = [0u64; LIMIT];
+    let mut ends = [0u64; LIMIT];
+    let outcome = cover_ranges(
+        section,
+        debug_addr,
+        debug_addr_base,
+        offset,
+        base_address,
+        encoding,
+        endian,
+        &mut begins,
+        &mut ends,
+    );
+    let verdict = outcome.verdict;
+    Made {
+        verdict,
+        coverage: Coverage {
+            n: outcome.n,
+            begins,
+            ends,
+        },
     }
 }
 
@@ -241,24 +306,28 @@ pub fn location_coverage(
 ) -> Made
     ensures { λ r. ⌜ toldMade r ≡ made (coverageOf (source (locationList split) encoding endian (now (section .entry)) (offset .0) «base_address» (now («debug_addr» .entry)) «debug_addr_base»)) ⌝ }
 {
-    match lists::loclists::locations(section, offset, encoding, base_address) {
-        Opened::Refused(e) => refused(e),
-        Opened::List(start) => {
-            let mut begins = [0u64; LIMIT];
-            let mut ends = [0u64; LIMIT];
-            let collected = collect_locations(
-                section,
-                debug_addr,
-                debug_addr_base,
-                start,
-                encoding,
-                endian,
-                split,
-                &mut begins,
-                &mut ends,
-            );
-            covered(collected, &mut begins, &mut ends)
-        }
+    let mut begins = [0u64; LIMIT];
+    let mut ends = [0u64; LIMIT];
+    let outcome = cover_locations(
+        section,
+        debug_addr,
+        debug_addr_base,
+        offset,
+        base_address,
+        encoding,
+        endian,
+        split,
+        &mut begins,
+        &mut ends,
+    );
+    let verdict = outcome.verdict;
+    Made {
+        verdict,
+        coverage: Coverage {
+            n: outcome.n,
+            begins,
+            ends,
+        },
     }
 }
 
@@ -266,7 +335,9 @@ pub fn location_coverage(
 pub fn from_canonical(bytes: &[u8]) -> Made
     ensures { λ r. ⌜ toldMade r ≡ made (coverageOf (readBack Dwarf32 (now (bytes .entry)) 0 [] (record { 0 = 0 }))) ⌝ }
 {
-    range_coverage(
+    let mut begins = [0u64; LIMIT];
+    let mut ends = [0u64; LIMIT];
+    let outcome = cover_ranges(
         bytes,
         &bytes[..0],
         DebugAddrBase(0),
@@ -278,5 +349,16 @@ pub fn from_canonical(bytes: &[u8]) -> Made
             version: 5,
         },
         RunTimeEndian::Little,
-    )
+        &mut begins,
+        &mut ends,
+    );
+    let verdict = outcome.verdict;
+    Made {
+        verdict,
+        coverage: Coverage {
+            n: outcome.n,
+            begins,
+            ends,
+        },
+    }
 }

@@ -1,20 +1,19 @@
--- Each turn sets one place more to 0, from n on. Assumes nothing.
+-- Each turn sets one place more to 0, from r on. Assumes nothing.
 use Prim.Native.Nat.{_-_}
 use native.Mathlib.Omega.{arith}
 use borrow.Author.Needs.{needs}
-use Rattle.coverage.specs.Ranges.{limit}
 use Rattle.coverage.proofs.GatherLaws.{Clearing, clearing-none, clearing-more, clearing-done}
 use Rattle.coverage.proofs.collect.clear.Statement.{statement}
 use Rattle.coverage.proofs.collect.clear.Tie as tie
 
 abbrev Inv-loop : tie.InvT-loop
-Inv-loop a₀ n i₀ a i = Clearing a₀ n a i
+Inv-loop a₀ r n i₀ a i = Clearing a₀ r n a i
 
 abbrev μ-loop : tie.MeasureT-loop
-μ-loop a₀ n i₀ a i = limit - i
+μ-loop a₀ r n i₀ a i = n - i
 
 loop-holds : tie.Need-loop-holds Inv-loop μ-loop
-loop-holds c = clearing-none (c .pre)
+loop-holds c = clearing-none (c .pre .0) (c .pre .1) (c .pre .2)
 
 mul-a : tie.Need-mul-a Inv-loop μ-loop
 mul-a c = omega arith

@@ -1,5 +1,5 @@
 -- The list opens or its refusal is the answer; the ranges gathered from its walk make its coverage. Assumes nothing.
-use mathlib.Core.Path.{refl, sym, ap, _∙_}
+use mathlib.Core.Path.{sym, ap, _∙_}
 use native.Mathlib.Omega.{arith}
 use borrow.Author.Needs.{needs}
 use Rattle.lists.specs.Open.{toldOpened}
@@ -7,9 +7,9 @@ use Rattle.coverage.specs.Covered.{locationList, source}
 use Rattle.coverage.specs.Told.{made}
 use Rattle.coverage.proofs.CallLaws.{coverage-refused}
 use Rattle.coverage.proofs.CoveredLaws.{opened-size}
-use Rattle.coverage.proofs.GatherLaws.{gathered-asks, gathered-made}
-use Rattle.coverage.proofs.collect.location_coverage.Statement.{statement}
-use Rattle.coverage.proofs.collect.location_coverage.Tie as tie
+use Rattle.coverage.proofs.GatherLaws.{outcome-blank, gathered-asks, gathered-made}
+use Rattle.coverage.proofs.collect.cover_locations.Statement.{statement}
+use Rattle.coverage.proofs.collect.cover_locations.Tie as tie
 
 locations-requires : tie.Need-locations-requires
 locations-requires c κs = search needs
@@ -24,7 +24,7 @@ enum-known-start : tie.Need-enum-known-start
 enum-known-start c = search needs
 
 collect-locations-requires : tie.Need-collect-locations-requires
-collect-locations-requires c κs = (opened-size _ _ _ _ (sym (c .before .before .before .before .before .locations .ensures) ∙ ap toldOpened (c .before .before .before .start .given .1)), (refl, refl))
+collect-locations-requires c κs = (opened-size _ _ _ _ (sym (c .before .before .before .before .before .locations .ensures) ∙ ap toldOpened (c .before .before .before .start .given .1)), c .before .before .before .before .before .before .before .before .pre)
 
 covered-requires : tie.Need-covered-requires
 covered-requires c κs =
@@ -33,13 +33,13 @@ covered-requires c κs =
     (record { section = λ i. omega (arith, c .before .before .before .before .before .before .before .before .before .before .shared-slice-known .given i); table = λ i. omega (arith, c .before .before .before .before .before .before .before .before .before .shared-slice-known2 .given i) })
 
 returns : tie.Need-returns
-returns c = c .refused .ensures ∙ sym (ap made (coverage-refused _ (sym (c .before .before .before .before .locations .ensures) ∙ ap toldOpened (c .before .before .e .given .1))))
+returns c = outcome-blank (c .refused .result) _ _ (c .before .before .before .before .before .before .before .pre) ∙ c .refused .ensures ∙ sym (ap made (coverage-refused _ (sym (c .before .before .before .before .locations .ensures) ∙ ap toldOpened (c .before .before .e .given .1))))
 
 returns-2 : tie.Need-returns-2
 returns-2 c = gathered-made _ (sym (c .before .before .before .before .before .before .before .before .before .locations .ensures) ∙ ap toldOpened (c .before .before .before .before .before .before .before .start .given .1)) (c .before .before .before .collect-locations .ensures) (c .covered .ensures)
 
-pub location-coverage-spec : {M : Type 1} → statement M
-location-coverage-spec =
+pub cover-locations-spec : {M : Type 1} → statement M
+cover-locations-spec =
     tie.close
     (tie.spec
     locations-requires
