@@ -482,6 +482,15 @@ impl<'a> RawWalk<'a> {
             }
         }
     }
+
+    /// The place of the next byte, the section's length when emptied.
+    pub fn place(&self) -> u64 {
+        let text = match &self.walking {
+            RawWalking::Ranges(walk) => format!("{walk:?}"),
+            RawWalking::Locations(walk) => format!("{walk:?}"),
+        };
+        (self.section.len() - bytes_left(&text)) as u64
+    }
 }
 
 /// Every answer of `next` from opening up to the first end, at most `most`.

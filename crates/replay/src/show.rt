@@ -1,0 +1,158 @@
+// A line for each answer: what it is, its numbers in hexadecimal, and where the walk stands after it.
+use bytes::Num;
+use bytes::error::Error;
+use entries::Expression;
+use libc::STDOUT_FILENO;
+use lists::LocationListEntry;
+use lists::Opened;
+use lists::Range;
+use lists::Walk;
+ghost use Prim.Native.Nat.{_<_};
+
+pub fn say(text: &[u8]) {
+    io::write_all(STDOUT_FILENO, text);
+}
+
+pub fn put(n: u64) {
+    say(b" ");
+    io::print_hex(STDOUT_FILENO, n, 1);
+}
+
+pub fn end_line() {
+    say(b"\n");
+}
+
+pub fn one(name: &[u8], a: u64) {
+    say(name);
+    put(a);
+}
+
+pub fn two(name: &[u8], a: u64, b: u64) {
+    one(name, a);
+    put(b);
+}
+
+pub fn expression(x: Expression) {
+    two(b" expression", x.offset as u64, x.len as u64);
+}
+
+// The refusal's number, and its value, 0 where it has none.
+pub fn refused(e: Error) {
+    two(b"refused", e.number(), e.value());
+}
+
+// A raw entry: which, and its numbers, 0 where it has fewer.
+pub struct Form {
+    pub code: u64,
+    pub a: u64,
+    pub b: u64,
+}
+
+fn say_form(code: u64) {
+    match code {
+        0 => say(b"AddressOrOffsetPair"),
+        1 => say(b"BaseAddress"),
+        2 => say(b"BaseAddressx"),
+        3 => say(b"StartxEndx"),
+        4 => say(b"StartxLength"),
+        5 => say(b"OffsetPair"),
+        6 => say(b"DefaultLocation"),
+        7 => say(b"StartEnd"),
+        _ => say(b"StartLength"),
+    }
+}
+
+pub fn raw(x: Form) {
+    say_form(x.code);
+    put(x.a);
+    put(x.b);
+}
+
+// A walk after a call, and whether the call said the end.
+pub struct Turn {
+    pub walk: Walk,
+    pub ended: bool,
+}
+
+pub fn stands(walk: Walk) -> Turn {
+    one(b" at", walk.at as u64);
+    one(b" base", walk.base_address);
+    end_line();
+    Turn { walk, ended: false }
+}
+
+pub fn ended(walk: Walk) -> Turn {
+    say(b"end");
+    stands(walk);
+    Turn { walk, ended: true }
+}
+
+pub fn refused_at(e: Error, walk: Walk) -> Turn {
+    refused(e);
+    stands(walk)
+}
+
+pub fn nothing(walk: Walk) -> Turn {
+    say(b"nothing");
+    stands(walk)
+}
+
+pub fn range(x: Range, walk: Walk) -> Turn {
+    two(b"range", x.begin, x.end);
+    stands(walk)
+}
+
+pub fn location(x: LocationListEntry, walk: Walk) -> Turn {
+    let span = x.range;
+    let data = x.data;
+    two(b"location", span.begin, span.end);
+    expression(data);
+    stands(walk)
+}
+
+// How many calls a walk still gets: one more after the end was said.
+pub fn fewer(left: u64, ended: bool) -> u64
+    requires { ⌜ 0 < left ⌝ }
+    ensures { λ r. ⌜ r < left ⌝ }
+{
+    if ended {
+        if 2 <= left {
+            return 1;
+        }
+    }
+    left - 1
+}
+
+// The calls that a walk gets at most.
+pub const CALLS: u64 = 64;
+
+pub fn refusal(e: Error) {
+    refused(e);
+    end_line();
+}
+
+pub fn value(n: u64) {
+    one(b"value", n);
+    end_line();
+}
+
+pub fn num(r: Num) {
+    match r {
+        Num::Got(n, c) => {
+            two(b"value", n, c as u64);
+            end_line();
+        }
+        Num::Refused(e) => refusal(e),
+    }
+}
+
+// Where an opened walk stands; a refused opening is no walk.
+pub fn opened(r: Opened) {
+    match r {
+        Opened::List(walk) => {
+            say(b"opened");
+            stands(walk);
+        }
+        Opened::Refused(e) => refusal(e),
+    }
+}
