@@ -23,49 +23,50 @@ use tables::lists::ListsHeader;
 use tables::loclists::LocationOffsetAnswer;
 use tables::rnglists::RangeOffsetAnswer;
 
-fn get_address(call: Call, table: &[u8]) {
-    let encoding = call.encoding;
-    let endian = call.endian;
-    match tables::addr::get_address(
-        table,
-        encoding.address_size,
-        DebugAddrBase(call.a),
-        DebugAddrIndex(call.b),
-        endian,
-    ) {
+fn address(r: AddressAnswer) {
+    match r {
         AddressAnswer::Address(x) => show::value(x),
         AddressAnswer::Refused(e) => show::refusal(e),
     }
 }
 
-fn range_offset(call: Call, table: &[u8]) {
+fn get_address(call: Call, table: &[u8]) {
     let encoding = call.encoding;
     let endian = call.endian;
-    match tables::rnglists::get_offset(
-        table,
-        encoding,
-        DebugRngListsBase(call.a),
-        DebugRngListsIndex(call.b),
-        endian,
-    ) {
+    let base = DebugAddrBase(call.a);
+    let index = DebugAddrIndex(call.b);
+    let size = encoding.address_size;
+    address(tables::addr::get_address(table, size, base, index, endian));
+}
+
+fn range_offset(r: RangeOffsetAnswer) {
+    match r {
         RangeOffsetAnswer::Offset(x) => show::value(x.0),
         RangeOffsetAnswer::Refused(e) => show::refusal(e),
     }
 }
 
-fn location_offset(call: Call, table: &[u8]) {
+fn get_range_offset(call: Call, table: &[u8]) {
     let encoding = call.encoding;
     let endian = call.endian;
-    match tables::loclists::get_offset(
-        table,
-        encoding,
-        DebugLocListsBase(call.a),
-        DebugLocListsIndex(call.b),
-        endian,
-    ) {
+    let base = DebugRngListsBase(call.a);
+    let index = DebugRngListsIndex(call.b);
+    range_offset(tables::rnglists::get_offset(table, encoding, base, index, endian));
+}
+
+fn location_offset(r: LocationOffsetAnswer) {
+    match r {
         LocationOffsetAnswer::Offset(x) => show::value(x.0),
         LocationOffsetAnswer::Refused(e) => show::refusal(e),
     }
+}
+
+fn get_location_offset(call: Call, table: &[u8]) {
+    let encoding = call.encoding;
+    let endian = call.endian;
+    let base = DebugLocListsBase(call.a);
+    let index = DebugLocListsIndex(call.b);
+    location_offset(tables::loclists::get_offset(table, encoding, base, index, endian));
 }
 
 fn bits(format: Format) -> u64 {
@@ -86,61 +87,102 @@ fn span(name: &[u8], x: Span) {
     show::two(name, x.offset as u64, x.len as u64);
 }
 
-fn lists_header(table: &[u8], endian: RunTimeEndian) {
-    match ListsHeader::parse(table, 0, endian) {
-        ListsAnswer::Header(header, rest) => {
-            let e = header.encoding;
-            show::one(b"header", header.size());
-            encoding(e);
-            show::one(b" count", header.offset_entry_count);
-            span(b" rest", rest);
-            show::end_line();
-        }
+fn lists_header(header: ListsHeader, rest: Span) {
+    let e = header.encoding;
+    show::one(b"header", header.size());
+    encoding(e);
+    show::one(b" count", header.offset_entry_count);
+    span(b" rest", rest);
+    show::end_line();
+}
+
+fn lists_answer(r: ListsAnswer) {
+    match r {
+        ListsAnswer::Header(header, rest) => lists_header(header, rest),
         ListsAnswer::Refused(e) => show::refusal(e),
     }
 }
 
-// A walk over a table's entries after a call, and whether the call said the end.
-struct EntryTurn {
-    walk: AddrEntryIter,
-    ended: bool,
-}
-
-fn left_of(walk: AddrEntryIter) -> EntryTurn {
+// How many bytes a walk over addresses has left.
+fn left_of(walk: AddrEntryIter) {
     let rest = walk.entries;
     show::one(b" left", rest.len as u64);
     show::end_line();
-    EntryTurn { walk, ended: false }
 }
 
-fn ended(walk: AddrEntryIter) -> EntryTurn {
-    show::say(b"end");
-    left_of(walk);
-    EntryTurn { walk, ended: true }
-}
-
-fn next_entry(table: &[u8], endian: RunTimeEndian, walk: AddrEntryIter) -> EntryTurn {
-    match walk.next(table, endian) {
-        NextEntry::Address(x, after) => {
-            show::one(b"address", x);
-            left_of(after)
-        }
-        NextEntry::End(after) => ended(after),
-        NextEntry::Refused(e, after) => {
-            show::refused(e);
-            left_of(after)
-        }
+fn entry(r: NextEntry) {
+    match r {
+        NextEntry::Address(x, _) => show::one(b"address", x),
+        NextEntry::End(_) => show::say(b"end"),
+        NextEntry::Refused(e, _) => show::refused(e),
     }
 }
 
-fn entries(table: &[u8], endian: RunTimeEndian, header: AddrHeader) {
-    let mut walk = header.entries();
+fn after_entry(r: NextEntry) -> AddrEntryIter {
+    match r {
+        NextEntry::Address(_, after) => after,
+        NextEntry::End(after) => after,
+        NextEntry::Refused(_, after) => after,
+    }
+}
+
+fn entries_end(r: NextEntry) -> bool {
+    match r {
+        NextEntry::End(_) => true,
+        _ => false,
+    }
+}
+
+fn entries(table: &[u8], endian: RunTimeEndian, start: AddrEntryIter) {
+    let mut walk = start;
     let mut left = show::CALLS;
     while 0 < left {
-        let t = next_entry(table, endian, walk);
-        walk = t.walk;
-        left = show::fewer(left, t.ended);
+        let r = walk.next(table, endian);
+        walk = after_entry(r);
+        entry(r);
+        left_of(walk);
+        left = show::fewer(left, entries_end(r));
     }
+}
+
+fn header(x: AddrHeader) {
+    let offset = x.offset;
+    let e = x.encoding;
+    let addresses = x.entries;
+    show::two(b"table", offset.0, x.length);
+    encoding(e);
+    span(b" entries", addresses);
+}
+
+fn table_answer(r: NextHeader) {
+    match r {
+        NextHeader::Header(x, _) => header(x),
+        NextHeader::End(_) => show::say(b"end"),
+        NextHeader::Refused(e, _) => show::refused(e),
+    }
+}
+
+fn after_table(r: NextHeader) -> AddrHeaderIter {
+    match r {
+        NextHeader::Header(_, after) => after,
+        NextHeader::End(after) => after,
+        NextHeader::Refused(_, after) => after,
+    }
+}
+
+fn tables_end(r: NextHeader) -> bool {
+    match r {
+        NextHeader::End(_) => true,
+        _ => false,
+    }
+}
+
+// The addresses of a table, where there is one.
+fn table_entries(table: &[u8], endian: RunTimeEndian, r: NextHeader) {
+    let NextHeader::Header(x, _) = r else {
+        return;
+    };
+    entries(table, endian, x.entries());
 }
 
 fn stands(walk: AddrHeaderIter) {
@@ -148,58 +190,16 @@ fn stands(walk: AddrHeaderIter) {
     show::end_line();
 }
 
-fn header(x: AddrHeader, after: AddrHeaderIter) {
-    let offset = x.offset;
-    let e = x.encoding;
-    let addresses = x.entries;
-    show::two(b"table", offset.0, x.length);
-    encoding(e);
-    span(b" entries", addresses);
-    stands(after);
-}
-
-// A walk over headers after a call, and whether the call said the end.
-struct HeaderTurn {
-    walk: AddrHeaderIter,
-    ended: bool,
-}
-
-fn next_header(table: &[u8], endian: RunTimeEndian, walk: AddrHeaderIter) -> HeaderTurn {
-    match walk.next(table, endian) {
-        NextHeader::Header(x, after) => {
-            header(x, after);
-            entries(table, endian, x);
-            HeaderTurn {
-                walk: after,
-                ended: false,
-            }
-        }
-        NextHeader::End(after) => {
-            show::say(b"end");
-            stands(after);
-            HeaderTurn {
-                walk: after,
-                ended: true,
-            }
-        }
-        NextHeader::Refused(e, after) => {
-            show::refused(e);
-            stands(after);
-            HeaderTurn {
-                walk: after,
-                ended: false,
-            }
-        }
-    }
-}
-
 fn walk_headers(table: &[u8], endian: RunTimeEndian) {
     let mut walk = AddrHeaderIter { at: 0 };
     let mut left = show::CALLS;
     while 0 < left {
-        let t = next_header(table, endian, walk);
-        walk = t.walk;
-        left = show::fewer(left, t.ended);
+        let r = walk.next(table, endian);
+        walk = after_table(r);
+        table_answer(r);
+        stands(walk);
+        table_entries(table, endian, r);
+        left = show::fewer(left, tables_end(r));
     }
 }
 
@@ -209,8 +209,8 @@ pub fn answer(call: Call, table: &[u8]) {
     match what {
         12 => get_address(call, table),
         13 => walk_headers(table, endian),
-        14 => lists_header(table, endian),
-        15 => range_offset(call, table),
-        _ => location_offset(call, table),
+        14 => lists_answer(ListsHeader::parse(table, 0, endian)),
+        15 => get_range_offset(call, table),
+        _ => get_location_offset(call, table),
     }
 }

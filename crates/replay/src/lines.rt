@@ -137,23 +137,27 @@ fn format_of(dwarf64: u64) -> Format {
     Format::Dwarf64
 }
 
-fn call_of(words: &[u64; 9], at: usize) -> Parsed {
-    let size = words[1];
-    let version = words[2];
-    if 255 < size {
-        return Parsed::Bad;
-    }
-    if 65535 < version {
-        return Parsed::Bad;
-    }
-    let endian = endian_of(words[3]);
+fn encoding_of(words: &[u64; 9]) -> Encoding {
     let format = format_of(words[4]);
-    let encoding = Encoding {
-        address_size: size as u8,
+    Encoding {
+        address_size: (words[1] % 256) as u8,
         format,
-        version: version as u16,
-    };
-    Parsed::Call(Call {
+        version: (words[2] % 65536) as u16,
+    }
+}
+
+// Whether address size and version fit their types.
+fn fits(words: &[u64; 9]) -> bool {
+    if 255 < words[1] {
+        return false;
+    }
+    words[2] <= 65535
+}
+
+fn call_of(words: &[u64; 9], at: usize) -> Call {
+    let encoding = encoding_of(words);
+    let endian = endian_of(words[3]);
+    Call {
         what: words[0],
         encoding,
         endian,
@@ -162,7 +166,7 @@ fn call_of(words: &[u64; 9], at: usize) -> Parsed {
         c: words[7],
         d: words[8],
         at,
-    })
+    }
 }
 
 fn numbers(line: &[u8], words: &mut [u64; 9]) -> Took {
@@ -185,7 +189,10 @@ pub fn parse(line: &[u8]) -> Parsed {
     let Took::Got(_, at) = numbers(line, &mut words) else {
         return Parsed::Bad;
     };
-    call_of(&words, at)
+    if fits(&words) {
+        return Parsed::Call(call_of(&words, at));
+    }
+    Parsed::Bad
 }
 
 // The first n bytes.

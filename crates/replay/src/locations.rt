@@ -1,5 +1,6 @@
 // The calls on location lists, plain and split.
 use super::lines::Call;
+use super::ranges;
 use super::show;
 use super::show::Form;
 use super::show::Turn;
@@ -12,29 +13,15 @@ use lists::loclists::LocConverted;
 use lists::loclists::RawLocAnswer;
 use lookups::LocationFound;
 
+// All but a default location are told by their bounds.
 fn form(x: RawLocListEntry) -> Form {
     match x {
-        RawLocListEntry::AddressOrOffsetPair(a, b, _) => Form { code: 0, a, b },
-        RawLocListEntry::BaseAddress(a) => Form { code: 1, a, b: 0 },
-        RawLocListEntry::BaseAddressx(a) => Form {
-            code: 2,
-            a: a.0,
-            b: 0,
-        },
-        RawLocListEntry::StartxEndx(a, b, _) => Form {
-            code: 3,
-            a: a.0,
-            b: b.0,
-        },
-        RawLocListEntry::StartxLength(a, b, _) => Form { code: 4, a: a.0, b },
-        RawLocListEntry::OffsetPair(a, b, _) => Form { code: 5, a, b },
         RawLocListEntry::DefaultLocation(_) => Form {
             code: 6,
             a: 0,
             b: 0,
         },
-        RawLocListEntry::StartEnd(a, b, _) => Form { code: 7, a, b },
-        RawLocListEntry::StartLength(a, b, _) => Form { code: 8, a, b },
+        _ => ranges::form(lists::convert::bounds_of(x)),
     }
 }
 
@@ -42,76 +29,98 @@ fn is_split(call: Call) -> bool {
     8 <= call.what
 }
 
-pub fn next(section: &[u8], table: &[u8], call: Call, walk: Walk) -> Turn {
-    let encoding = call.encoding;
-    let endian = call.endian;
-    match lists::loclists::next(
-        section,
-        table,
-        DebugAddrBase(call.c),
-        walk,
-        encoding,
-        endian,
-        is_split(call),
-    ) {
+fn next_answer(r: LocAnswer) -> Turn {
+    match r {
         LocAnswer::Location(x, after) => show::location(x, after),
         LocAnswer::End(after) => show::ended(after),
         LocAnswer::Refused(e, after) => show::refused_at(e, after),
     }
 }
 
-fn convert(raw: RawLocListEntry, table: &[u8], call: Call, walk: Walk) -> Turn {
+pub fn next(section: &[u8], table: &[u8], call: Call, walk: Walk) -> Turn {
     let encoding = call.encoding;
     let endian = call.endian;
-    match lists::loclists::convert_raw(raw, table, DebugAddrBase(call.c), walk, encoding, endian) {
+    let base = DebugAddrBase(call.c);
+    let split = is_split(call);
+    next_answer(lists::loclists::next(section, table, base, walk, encoding, endian, split))
+}
+
+fn converted(r: LocConverted) -> Turn {
+    match r {
         LocConverted::Location(x, after) => show::location(x, after),
         LocConverted::Nothing(after) => show::nothing(after),
         LocConverted::Refused(e, after) => show::refused_at(e, after),
     }
 }
 
-fn read(raw: RawLocListEntry, table: &[u8], call: Call, walk: Walk) -> Turn {
-    show::raw(form(raw));
-    show::expression(lists::convert::expression_of(raw));
-    let turn = show::stands(walk);
-    if call.what % 4 == 1 {
-        return convert(raw, table, call, walk);
-    }
-    turn
-}
-
-pub fn next_raw(section: &[u8], table: &[u8], call: Call, walk: Walk) -> Turn {
+fn convert(raw: RawLocListEntry, table: &[u8], call: Call, walk: Walk) -> Turn {
     let encoding = call.encoding;
     let endian = call.endian;
-    match lists::loclists::next_raw(section, walk, encoding, endian, is_split(call)) {
-        RawLocAnswer::Entry(raw, after) => read(raw, table, call, after),
+    let base = DebugAddrBase(call.c);
+    converted(lists::loclists::convert_raw(raw, table, base, walk, encoding, endian))
+}
+
+// Two zeros stand for an expression that an entry lacks.
+fn raw_entry(raw: RawLocListEntry, walk: Walk) -> Turn {
+    show::raw(form(raw));
+    show::expression(lists::convert::expression_of(raw));
+    show::stands(walk)
+}
+
+fn raw_answer(r: RawLocAnswer) -> Turn {
+    match r {
+        RawLocAnswer::Entry(raw, after) => raw_entry(raw, after),
         RawLocAnswer::End(after) => show::ended(after),
         RawLocAnswer::Refused(e, after) => show::refused_at(e, after),
+    }
+}
+
+pub fn next_raw(section: &[u8], call: Call, walk: Walk) -> Turn {
+    let encoding = call.encoding;
+    let endian = call.endian;
+    let split = is_split(call);
+    raw_answer(lists::loclists::next_raw(section, walk, encoding, endian, split))
+}
+
+// A raw entry, and what it comes to.
+pub fn next_converted(section: &[u8], table: &[u8], call: Call, walk: Walk) -> Turn {
+    let encoding = call.encoding;
+    let endian = call.endian;
+    let split = is_split(call);
+    let r = lists::loclists::next_raw(section, walk, encoding, endian, split);
+    let turn = raw_answer(r);
+    let RawLocAnswer::Entry(raw, after) = r else {
+        return turn;
+    };
+    convert(raw, table, call, after)
+}
+
+fn found(r: LocationFound) {
+    match r {
+        LocationFound::Found(x) => {
+            show::located(x);
+            show::end_line();
+        }
+        LocationFound::NotThere => show::say(b"not there\n"),
+        LocationFound::Refused(e) => show::refusal(e),
     }
 }
 
 pub fn look_up(section: &[u8], table: &[u8], call: Call) {
     let encoding = call.encoding;
     let endian = call.endian;
-    match lookups::lookup_location(
+    let base = DebugAddrBase(call.c);
+    let at = LocationListsOffset(call.a);
+    let split = is_split(call);
+    found(lookups::lookup_location(
         section,
         table,
-        DebugAddrBase(call.c),
-        LocationListsOffset(call.a),
+        base,
+        at,
         call.b,
         encoding,
         endian,
-        is_split(call),
+        split,
         call.d,
-    ) {
-        LocationFound::Found(x) => {
-            let span = x.range;
-            let data = x.data;
-            show::two(b"location", span.begin, span.end);
-            show::expression(data);
-            show::end_line();
-        }
-        LocationFound::NotThere => show::say(b"not there\n"),
-        LocationFound::Refused(e) => show::refusal(e),
-    }
+    ));
 }

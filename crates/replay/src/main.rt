@@ -98,5 +98,9 @@ fn replay(text: &[u8]) {
 fn main() {
     let mut text = [0u8; INPUT];
     let n = io::read_full(STDIN_FILENO, &mut text);
+    if n == INPUT {
+        show::say(b"bad record\n");
+        return;
+    }
     replay(&text[..n]);
 }

@@ -12,7 +12,7 @@ use lists::rnglists::RngAnswer;
 use lists::rnglists::RngConverted;
 use lookups::RangeFound;
 
-fn form(x: RawRngListEntry) -> Form {
+pub fn form(x: RawRngListEntry) -> Form {
     match x {
         RawRngListEntry::AddressOrOffsetPair(a, b) => Form { code: 0, a, b },
         RawRngListEntry::BaseAddress(a) => Form { code: 1, a, b: 0 },
@@ -33,65 +33,69 @@ fn form(x: RawRngListEntry) -> Form {
     }
 }
 
-pub fn next(section: &[u8], table: &[u8], call: Call, walk: Walk) -> Turn {
-    let encoding = call.encoding;
-    let endian = call.endian;
-    match lists::rnglists::next(
-        section,
-        table,
-        DebugAddrBase(call.c),
-        walk,
-        encoding,
-        endian,
-    ) {
+fn next_answer(r: RngAnswer) -> Turn {
+    match r {
         RngAnswer::Range(x, after) => show::range(x, after),
         RngAnswer::End(after) => show::ended(after),
         RngAnswer::Refused(e, after) => show::refused_at(e, after),
     }
 }
 
-fn convert(raw: RawRngListEntry, table: &[u8], call: Call, walk: Walk) -> Turn {
+pub fn next(section: &[u8], table: &[u8], call: Call, walk: Walk) -> Turn {
     let encoding = call.encoding;
     let endian = call.endian;
-    match lists::rnglists::convert_raw(raw, table, DebugAddrBase(call.c), walk, encoding, endian) {
+    let base = DebugAddrBase(call.c);
+    next_answer(lists::rnglists::next(section, table, base, walk, encoding, endian))
+}
+
+fn converted(r: RngConverted) -> Turn {
+    match r {
         RngConverted::Range(x, after) => show::range(x, after),
         RngConverted::Nothing(after) => show::nothing(after),
         RngConverted::Refused(e, after) => show::refused_at(e, after),
     }
 }
 
-fn read(raw: RawRngListEntry, table: &[u8], call: Call, walk: Walk) -> Turn {
-    show::raw(form(raw));
-    let turn = show::stands(walk);
-    if call.what == 1 {
-        return convert(raw, table, call, walk);
-    }
-    turn
-}
-
-pub fn next_raw(section: &[u8], table: &[u8], call: Call, walk: Walk) -> Turn {
+fn convert(raw: RawRngListEntry, table: &[u8], call: Call, walk: Walk) -> Turn {
     let encoding = call.encoding;
     let endian = call.endian;
-    match lists::rnglists::next_raw(section, walk, encoding, endian) {
-        RawRngAnswer::Entry(raw, after) => read(raw, table, call, after),
+    let base = DebugAddrBase(call.c);
+    converted(lists::rnglists::convert_raw(raw, table, base, walk, encoding, endian))
+}
+
+fn raw_entry(raw: RawRngListEntry, walk: Walk) -> Turn {
+    show::raw(form(raw));
+    show::stands(walk)
+}
+
+fn raw_answer(r: RawRngAnswer) -> Turn {
+    match r {
+        RawRngAnswer::Entry(raw, after) => raw_entry(raw, after),
         RawRngAnswer::End(after) => show::ended(after),
         RawRngAnswer::Refused(e, after) => show::refused_at(e, after),
     }
 }
 
-pub fn look_up(section: &[u8], table: &[u8], call: Call) {
+pub fn next_raw(section: &[u8], call: Call, walk: Walk) -> Turn {
     let encoding = call.encoding;
     let endian = call.endian;
-    match lookups::lookup_range(
-        section,
-        table,
-        DebugAddrBase(call.c),
-        RangeListsOffset(call.a),
-        call.b,
-        encoding,
-        endian,
-        call.d,
-    ) {
+    raw_answer(lists::rnglists::next_raw(section, walk, encoding, endian))
+}
+
+// A raw entry, and what it comes to.
+pub fn next_converted(section: &[u8], table: &[u8], call: Call, walk: Walk) -> Turn {
+    let encoding = call.encoding;
+    let endian = call.endian;
+    let r = lists::rnglists::next_raw(section, walk, encoding, endian);
+    let turn = raw_answer(r);
+    let RawRngAnswer::Entry(raw, after) = r else {
+        return turn;
+    };
+    convert(raw, table, call, after)
+}
+
+fn found(r: RangeFound) {
+    match r {
         RangeFound::Found(x) => {
             show::two(b"range", x.begin, x.end);
             show::end_line();
@@ -99,4 +103,12 @@ pub fn look_up(section: &[u8], table: &[u8], call: Call) {
         RangeFound::NotThere => show::say(b"not there\n"),
         RangeFound::Refused(e) => show::refusal(e),
     }
+}
+
+pub fn look_up(section: &[u8], table: &[u8], call: Call) {
+    let encoding = call.encoding;
+    let endian = call.endian;
+    let base = DebugAddrBase(call.c);
+    let at = RangeListsOffset(call.a);
+    found(lookups::lookup_range(section, table, base, at, call.b, encoding, endian, call.d));
 }

@@ -102,11 +102,15 @@ pub fn range(x: Range, walk: Walk) -> Turn {
     stands(walk)
 }
 
-pub fn location(x: LocationListEntry, walk: Walk) -> Turn {
+pub fn located(x: LocationListEntry) {
     let span = x.range;
     let data = x.data;
     two(b"location", span.begin, span.end);
     expression(data);
+}
+
+pub fn location(x: LocationListEntry, walk: Walk) -> Turn {
+    located(x);
     stands(walk)
 }
 

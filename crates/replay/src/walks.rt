@@ -15,9 +15,11 @@ fn turn(section: &[u8], table: &[u8], call: Call, walk: Walk) -> Turn {
     let what = call.what;
     match what {
         0 => ranges::next(section, table, call, walk),
-        1 | 2 => ranges::next_raw(section, table, call, walk),
+        1 => ranges::next_converted(section, table, call, walk),
+        2 => ranges::next_raw(section, call, walk),
         4 | 8 => locations::next(section, table, call, walk),
-        _ => locations::next_raw(section, table, call, walk),
+        5 | 9 => locations::next_converted(section, table, call, walk),
+        _ => locations::next_raw(section, call, walk),
     }
 }
 

@@ -10,14 +10,23 @@ Inv-loop table endian walk₀ left₀ walk left = left ≤ 64
 abbrev μ-loop : tie.MeasureT-loop
 μ-loop table endian walk₀ left₀ walk left = left
 
-entries-requires : tie.Need-entries-requires Inv-loop μ-loop
-entries-requires c κs = search needs
-
 loop-holds : tie.Need-loop-holds Inv-loop μ-loop
 loop-holds c = search needs
 
-next-entry-requires : tie.Need-next-entry-requires Inv-loop μ-loop
-next-entry-requires c κs = search needs
+next-requires : tie.Need-next-requires Inv-loop μ-loop
+next-requires c κs = search needs
+
+after-entry-requires : tie.Need-after-entry-requires Inv-loop μ-loop
+after-entry-requires c κs = search needs
+
+entry-requires : tie.Need-entry-requires Inv-loop μ-loop
+entry-requires c κs = search needs
+
+left-of-requires : tie.Need-left-of-requires Inv-loop μ-loop
+left-of-requires c κs = search needs
+
+entries-end-requires : tie.Need-entries-end-requires Inv-loop μ-loop
+entries-end-requires c κs = search needs
 
 fewer-requires : tie.Need-fewer-requires Inv-loop μ-loop
 fewer-requires c κs = search needs
@@ -37,9 +46,12 @@ entries-spec =
     (tie.spec
     Inv-loop
     μ-loop
-    entries-requires
     loop-holds
-    next-entry-requires
+    next-requires
+    after-entry-requires
+    entry-requires
+    left-of-requires
+    entries-end-requires
     fewer-requires
     loop-less
     loop-again

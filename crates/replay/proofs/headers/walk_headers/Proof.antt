@@ -13,8 +13,23 @@ abbrev μ-loop : tie.MeasureT-loop
 loop-holds : tie.Need-loop-holds Inv-loop μ-loop
 loop-holds c = search needs
 
-next-header-requires : tie.Need-next-header-requires Inv-loop μ-loop
-next-header-requires c κs = search needs
+next-requires : tie.Need-next-requires Inv-loop μ-loop
+next-requires c κs = search needs
+
+after-table-requires : tie.Need-after-table-requires Inv-loop μ-loop
+after-table-requires c κs = search needs
+
+table-answer-requires : tie.Need-table-answer-requires Inv-loop μ-loop
+table-answer-requires c κs = search needs
+
+stands-requires : tie.Need-stands-requires Inv-loop μ-loop
+stands-requires c κs = search needs
+
+table-entries-requires : tie.Need-table-entries-requires Inv-loop μ-loop
+table-entries-requires c κs = search needs
+
+tables-end-requires : tie.Need-tables-end-requires Inv-loop μ-loop
+tables-end-requires c κs = search needs
 
 fewer-requires : tie.Need-fewer-requires Inv-loop μ-loop
 fewer-requires c κs = search needs
@@ -35,7 +50,12 @@ walk-headers-spec =
     Inv-loop
     μ-loop
     loop-holds
-    next-header-requires
+    next-requires
+    after-table-requires
+    table-answer-requires
+    stands-requires
+    table-entries-requires
+    tables-end-requires
     fewer-requires
     loop-less
     loop-again
