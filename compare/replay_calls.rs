@@ -1,11 +1,13 @@
 //! A call as a line, and the oracle's answers to it as lines.
 
 use oracle::oracle_api::{self as gimli, *};
-use std::collections::BTreeMap;
+use std::collections::{BTreeMap, BTreeSet};
 use std::fmt::Write;
 
-/// The calls by the numbers that the crate replay knows them by.
+/// The lists in the order of the calls on them: a list has four calls.
 pub const KINDS: [Kind; 3] = [Kind::Ranges, Kind::Locations, Kind::SplitLocations];
+
+/// The calls by the numbers that the crate replay knows them by.
 pub const NEXT: u64 = 0;
 pub const CONVERT: u64 = 1;
 pub const RAW: u64 = 2;
@@ -88,20 +90,18 @@ impl Met {
             ("v5", |key| key.version == 5),
             ("from v6", |key| key.version >= 6),
         ];
-        let mut rows: Vec<(u64, &str)> =
+        let rows: BTreeSet<(u64, &str)> =
             self.0.keys().map(|key| (key.what, key.answer.as_str())).collect();
-        rows.dedup();
-        rows.sort();
-        rows.dedup();
-        print!("{:>18}  {:<30}", "call", "answer");
+        print!("{:>22}  {:<30}", "call", "answer");
         columns.iter().for_each(|(name, _)| print!("{name:>8}"));
         println!();
         for (what, answer) in rows {
-            print!("{:>18}  {answer:<30}", name(what));
+            print!("{:>22}  {answer:<30}", name(what));
             for (_, holds) in columns {
-                let counts = self.0.iter().filter(|(key, _)| {
-                    key.what == what && key.answer == answer && holds(key)
-                });
+                let counts = self
+                    .0
+                    .iter()
+                    .filter(|(key, _)| key.what == what && key.answer == answer && holds(key));
                 print!("{:>8}", counts.map(|(_, count)| count).sum::<u64>());
             }
             println!();
@@ -221,7 +221,10 @@ impl Lines<'_> {
                 self.put(&format!("{about}yielded"), yielded(got) + &stands(walk.state()));
             }
             Converted::Nothing => {
-                self.put(&format!("{about}nothing"), String::from("nothing") + &stands(walk.state()));
+                self.put(
+                    &format!("{about}nothing"),
+                    String::from("nothing") + &stands(walk.state()),
+                );
             }
             Converted::Refused(refusal) => self.refused(&about, refusal, stands(walk.state())),
         }
@@ -326,7 +329,9 @@ impl Lines<'_> {
             let answer = entries.next();
             let rest = format!(" left {:x}", entries.left());
             match answer {
-                Answer::Entry(address) => self.put("address", format!("address {address:x}") + &rest),
+                Answer::Entry(address) => {
+                    self.put("address", format!("address {address:x}") + &rest)
+                }
                 Answer::End => self.put("end of addresses", String::from("end") + &rest),
                 Answer::Refused(refusal) => self.refused("address: ", refusal, rest),
             }
@@ -361,9 +366,13 @@ impl Lines<'_> {
         self.result("address size: ", size, number);
         self.result("offset, format 32: ", gimli::read_offset(b, big, false), number);
         self.result("offset, format 64: ", gimli::read_offset(b, big, true), number);
-        self.result("initial length: ", gimli::initial_length(b, big), |(length, dwarf64, taken)| {
-            format!("length {length:x} {} {taken:x}", if dwarf64 { 8 } else { 4 })
-        });
+        self.result(
+            "initial length: ",
+            gimli::initial_length(b, big),
+            |(length, dwarf64, taken)| {
+                format!("length {length:x} {} {taken:x}", if dwarf64 { 8 } else { 4 })
+            },
+        );
         self.result("skip: ", gimli::skip(b, count), |left| format!("value {:x}", left.offset));
         self.result("split: ", gimli::split(b, count), |(first, left)| {
             format!("part {:x} {:x} {:x}", first.offset, first.length, left.offset)

@@ -305,10 +305,14 @@ fn edges(ask: &mut dyn FnMut(&Call)) {
         for (list, version) in [(0, 4), (0, 5)] {
             let shape = Shape { list, version, size, big_endian: size % 2 == 0 };
             for base in [top - 2, top - 1, top, top - 9] {
-                let pairs = [(0, 1), (2, 1), (1, 8), (5, 0xb), (0xa, 0xc), (top - 1, top), (3, top)];
-                let entries = pairs.map(|(a, b)| {
-                    if shape.bare() { shape.pair(a, b) } else { shape.entry(4, a, b) }
-                });
+                let pairs =
+                    [(0, 1), (2, 1), (1, 8), (5, 0xb), (0xa, 0xc), (top - 1, top), (3, top)];
+                let entries =
+                    pairs.map(
+                        |(a, b)| {
+                            if shape.bare() { shape.pair(a, b) } else { shape.entry(4, a, b) }
+                        },
+                    );
                 let style = if base == top { NEXT } else { CONVERT };
                 ask(&shape.call(style, shape.write(&entries), base));
             }
@@ -428,32 +432,32 @@ fn header(h: Header, what: u64, big_endian: bool, dwarf64: bool) -> Vec<u8> {
 fn headers(ask: &mut dyn FnMut(&Call)) {
     for what in [TABLES, LISTS_HEADER] {
         for (big_endian, dwarf64) in [(false, false), (true, false), (false, true), (true, true)] {
-            let mut put = |bytes: Vec<u8>| ask(&plain(what, 0, big_endian, dwarf64, bytes));
             let with = |h: Header| header(h, what, big_endian, dwarf64);
+            let mut put = |size, bytes| ask(&plain(what, size, big_endian, dwarf64, bytes));
             for size in [1, 2, 4, 8, 0, 3, 9, 255] {
-                put(with(Header { size, ..GOOD }));
+                put(size, with(Header { size, ..GOOD }));
             }
             for version in [0, 4, 6, 0x500, 0xffff] {
-                put(with(Header { version, ..GOOD }));
+                put(4, with(Header { version, ..GOOD }));
             }
             for segment in [1, 4, 255] {
-                put(with(Header { segment, ..GOOD }));
+                put(4, with(Header { segment, ..GOOD }));
             }
-            put(with(Header { length: 1, ..GOOD }));
-            put(with(Header { length: 1 << 20, ..GOOD }));
-            put(with(Header { version: 4, size: 3, segment: 1, ..GOOD }));
-            put(with(Header { size: 3, segment: 1, ..GOOD }));
+            put(4, with(Header { length: 1, ..GOOD }));
+            put(4, with(Header { length: 1 << 20, ..GOOD }));
+            put(3, with(Header { version: 4, size: 3, segment: 1, ..GOOD }));
+            put(3, with(Header { size: 3, segment: 1, ..GOOD }));
             let two = [with(GOOD), with(Header { size: 2, ..GOOD })].concat();
-            put(two.clone());
+            put(4, two.clone());
             let length = with(GOOD).len() as u64;
             for cut in (1..=length).filter(|_| big_endian == dwarf64) {
                 if cut % 2 == 0 {
-                    put(two[..(length - cut) as usize].to_vec());
+                    put(4, two[..(length - cut) as usize].to_vec());
                 } else {
-                    put(with(Header { length: cut.wrapping_neg(), ..GOOD }));
+                    put(4, with(Header { length: cut.wrapping_neg(), ..GOOD }));
                 }
             }
-            put([with(GOOD), with(Header { version: 3, ..GOOD }), with(GOOD)].concat());
+            put(4, [with(GOOD), with(Header { version: 3, ..GOOD }), with(GOOD)].concat());
         }
         for first in [0xffff_fff0, 0xffff_fff8, 0xffff_fffe, 0xffff_ffef] {
             for big_endian in [false, true] {
@@ -553,8 +557,8 @@ fn reads(ask: &mut dyn FnMut(&Call)) {
             let bytes: Vec<u8> = (0..length).map(|i| 8 - (i & 7)).collect();
             let size = sizes[usize::from(length) % sizes.len()];
             let mut call = plain(READS, size, big_endian, false, bytes);
-            call.numbers[0] = [0, u64::from(length), 1 + u64::from(length), u64::MAX, 4]
-                [usize::from(length) % 5];
+            call.numbers[0] =
+                [0, u64::from(length), 1 + u64::from(length), u64::MAX, 4][usize::from(length) % 5];
             ask(&call);
         }
     }
@@ -570,7 +574,9 @@ fn reads(ask: &mut dyn FnMut(&Call)) {
 fn sums(ask: &mut dyn FnMut(&Call)) {
     for size in SIZES {
         let top = top(size);
-        for (a, b) in [(1, 2), (top, 0), (top, 1), (top - 1, top), (u64::MAX, 1), (1 << 63, 1 << 63)] {
+        for (a, b) in
+            [(1, 2), (top, 0), (top, 1), (top - 1, top), (u64::MAX, 1), (1 << 63, 1 << 63)]
+        {
             let mut call = plain(SUMS, size, false, false, Vec::new());
             call.numbers = [a, b, 0, 0];
             ask(&call);
