@@ -69,6 +69,7 @@ fn get_location_offset(call: Call, table: &[u8]) {
     location_offset(tables::loclists::get_offset(table, encoding, base, index, endian));
 }
 
+// Numbers are written in hexadecimal: 32 and 64 as they read.
 fn bits(format: Format) -> u64 {
     match format {
         Format::Dwarf32 => 0x32,

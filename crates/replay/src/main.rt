@@ -1,6 +1,6 @@
 // gimli's answers again, with no gimli at hand. Standard input has a call on each line; the program makes it with the
-// port and writes the line and the answers below it. The file stdout has what gimli answered. compare/make-replay
-// writes both files.
+// port and writes the line and the answers below it; a line that is no call ends it with `bad record`. The file stdout
+// has what gimli answered. compare/make-replay writes both files.
 mod headers;
 mod lines;
 mod locations;
