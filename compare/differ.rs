@@ -10,6 +10,8 @@ use std::fmt::Debug;
 use generator::{Case, ConvertCase, ListCase, Random};
 use oracle::oracle_api::{self as gimli, *};
 
+use crate::added::{self, Added};
+
 /// The first entry whose range holds an address, "not there", or a refusal.
 pub type Found = Answer<Yielded>;
 
@@ -106,12 +108,12 @@ impl Met {
         }
     }
 
-    fn met(&mut self, name: String) {
+    pub fn met(&mut self, name: String) {
         *self.names.entry(name).or_default() += 1;
     }
 
     /// One compared call: an error that names it when the answers differ.
-    fn same<T: PartialEq + Debug>(
+    pub fn same<T: PartialEq + Debug>(
         &mut self,
         call: &str,
         oracle: &T,
@@ -165,7 +167,7 @@ pub fn list_of(case: &ListCase) -> List<'_> {
 }
 
 /// Compares all calls of a case. `seed` chooses the order of calls on a walk.
-pub fn compare(port: &impl Port, case: &Case, seed: u64, met: &mut Met) -> Result<(), String> {
+pub fn compare(port: &impl Added, case: &Case, seed: u64, met: &mut Met) -> Result<(), String> {
     match case {
         Case::List(case) => {
             let list = list_of(case);
@@ -173,7 +175,8 @@ pub fn compare(port: &impl Port, case: &Case, seed: u64, met: &mut Met) -> Resul
                 other_size(port, &list, seed, met)?;
             }
             walk(port, &list, seed, met)?;
-            lookups(port, &list, seed, met)
+            lookups(port, &list, seed, met)?;
+            added::list(port, &list, &mut Random::new(seed.rotate_left(16)), false, met)
         }
         Case::Convert(case) => convert(port, case, met),
         Case::Address(c) => {
@@ -311,7 +314,7 @@ const OTHER_SIZE: u64 = 0x6f74686572;
 
 /// A list with an address size that isn't read: refused with 6 at opening,
 /// and by any call on a walk made by hand.
-fn other_size(port: &impl Port, list: &List, seed: u64, met: &mut Met) -> Result<(), String> {
+fn other_size(port: &impl Added, list: &List, seed: u64, met: &mut Met) -> Result<(), String> {
     let r = &mut Random::new(seed ^ OTHER_SIZE ^ !0);
     let mut size = r.next() as u8;
     while [1, 2, 4, 8].contains(&size) {
@@ -331,7 +334,8 @@ fn other_size(port: &impl Port, list: &List, seed: u64, met: &mut Met) -> Result
     met.by_the_page("next_raw, other size", &(Answer::Refused(no), emptied), &raw)?;
     let entry = Raw { form: Form::Base, first: r.next(), second: 0, expression: None };
     let converted = port.convert_raw(list, walk, entry);
-    met.by_the_page("convert_raw, other size", &(Converted::Refused(no), walk), &converted)
+    met.by_the_page("convert_raw, other size", &(Converted::Refused(no), walk), &converted)?;
+    added::other_size(port, list, r, met)
 }
 
 /// Looks addresses up: gimli has no such call, so its walk up to the entry

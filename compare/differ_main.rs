@@ -1,17 +1,21 @@
 //! Compares the port with the oracle: every short list, then the cases of as
-//! many seeds as are asked for. Any difference is printed, and the exit status
-//! is 1.
+//! many seeds as are asked for, then a case built for coverage, sheets and
+//! canonical lists for every twentieth of them. Any difference is printed, and
+//! the exit status is 1.
 //!
 //!   differ <seeds> [first seed] [all] [model]
 //!
 //! With `all`, every list of up to three bytes, else up to two. With `model`,
 //! the model of document 01 stands in for the port, to try the comparison.
 
+mod added;
+mod built;
 mod differ;
 mod model;
 mod port;
 
-use differ::{Met, Port};
+use added::Added;
+use differ::Met;
 use oracle::oracle_api::{self as gimli, Kind};
 use std::sync::Mutex;
 use std::sync::atomic::{AtomicBool, Ordering};
@@ -46,7 +50,7 @@ fn spread(count: u64, one: impl Fn(u64, &mut Met) -> Result<(), String> + Sync) 
     total.into_inner().unwrap()
 }
 
-fn run(port: &impl Port, seeds: u64, first: u64, all: bool) {
+fn run(port: &impl Added, seeds: u64, first: u64, all: bool) {
     let start = Instant::now();
     let short = if all { generator::SHORT_LISTS } else { 1 + 0x100 + 0x10000 };
     let lists = spread(u64::from(short), |index, met| {
@@ -75,13 +79,30 @@ fn run(port: &impl Port, seeds: u64, first: u64, all: bool) {
         differ::compare(port, &case, seed, met)
             .map_err(|error| format!("seed {seed}: {error}\n{case:x?}"))
     });
-    for (name, count) in &met.names {
-        println!("{count:>12} {name}");
-    }
+    print_names(&met);
     let seconds = start.elapsed().as_secs();
     println!("{seeds} seeds from {first}, {} calls, none differ, {seconds} s", met.calls);
     println!("{} calls left out, none differs from document 01", met.left_out);
-    println!("{} calls compared in all", lists.calls + bases + met.calls);
+
+    let start = Instant::now();
+    let cases = seeds.div_ceil(20);
+    let built = spread(cases, |index, met| {
+        let seed = first.wrapping_add(index);
+        built::compare(port, seed, met).map_err(|error| format!("built, seed {seed}: {error}"))
+    });
+    print_names(&built);
+    let seconds = start.elapsed().as_secs();
+    println!(
+        "{cases} built cases from seed {first}, {} calls, none differ, {seconds} s",
+        built.calls
+    );
+    println!("{} calls compared in all", lists.calls + bases + met.calls + built.calls);
+}
+
+fn print_names(met: &Met) {
+    for (name, count) in &met.names {
+        println!("{count:>12} {name}");
+    }
 }
 
 fn main() {

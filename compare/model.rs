@@ -2,6 +2,7 @@
 //! comparison with, and to see whether gimli's answers and the page agree.
 //! Slow and short; it shares nothing with gimli's code.
 
+use crate::added::{self, Added, Kept, MOST, Ranges, Wrote};
 use crate::differ::Port;
 use oracle::oracle_api::{
     Answer, Converted, Form, Kind, List, Lists, Place, Raw, Refusal, State, Table, Yielded,
@@ -413,5 +414,73 @@ impl Port for Model {
 
     fn min_tombstone(&self, size: u8) -> u64 {
         bound(size)
+    }
+}
+
+/// Puts a range among runs that are apart: those it meets become one with it.
+fn put(runs: &mut Ranges, (mut begin, mut end): (u64, u64)) {
+    let meets = |run: &(u64, u64)| run.0 <= end && begin <= run.1;
+    let from = runs.iter().position(meets);
+    if let Some(from) = from {
+        let count = runs[from..].iter().take_while(|run| meets(run)).count();
+        begin = begin.min(runs[from].0);
+        end = end.max(runs[from + count - 1].1);
+        runs.splice(from..from + count, [(begin, end)]);
+    } else {
+        let at = runs.iter().take_while(|run| run.1 < begin).count();
+        runs.insert(at, (begin, end));
+    }
+}
+
+/// The runs of a list's walk.
+fn runs(list: &List) -> Got<Ranges> {
+    let (mut walk, mut runs) = (Model.open(list)?, Ranges::new());
+    for yielded in 0.. {
+        let (answer, after) = Model.next(list, walk);
+        walk = after;
+        match answer {
+            Answer::Entry(_) if yielded == MOST => return no(10, 0),
+            Answer::Entry(entry) => put(&mut runs, (entry.begin, entry.end)),
+            Answer::End => break,
+            Answer::Refused(refusal) => return Err(refusal),
+        }
+    }
+    Ok(runs)
+}
+
+fn keep(runs: Ranges, kept: &mut Kept) -> Wrote {
+    *kept = added::kept(&runs);
+    Ok(runs.len() as u64)
+}
+
+fn put_out(bytes: &[u8], output: &mut [u8]) -> Wrote {
+    let Some(part) = output.get_mut(..bytes.len()) else { return no(11, 0) };
+    part.copy_from_slice(bytes);
+    Ok(bytes.len() as u64)
+}
+
+impl Added for Model {
+    fn coverage(&self, list: &List, kept: &mut Kept) -> Wrote {
+        keep(runs(list)?, kept)
+    }
+
+    fn coverage_from_canonical(&self, bytes: &[u8], kept: &mut Kept) -> Wrote {
+        keep(runs(&added::canonical_list(bytes))?, kept)
+    }
+
+    fn coverage_from_sheet(&self, sheet: &[u8], kept: &mut Kept) -> Wrote {
+        keep(added::sheet_ranges(sheet)?, kept)
+    }
+
+    fn sheet(&self, n: u64, kept: &Kept, output: &mut [u8]) -> Wrote {
+        put_out(&added::sheet(&added::handed(n, kept)?), output)
+    }
+
+    fn canonical(&self, n: u64, kept: &Kept, output: &mut [u8]) -> Wrote {
+        put_out(&added::canonical(&added::handed(n, kept)?), output)
+    }
+
+    fn canonical_of(&self, list: &List, output: &mut [u8]) -> Wrote {
+        put_out(&added::canonical(&runs(list)?), output)
     }
 }

@@ -1,6 +1,7 @@
 //! The port through its C interface: crate `ffi`'s static library, whose
 //! `src/lib.rt` says what each word is.
 
+use crate::added::{Added, Kept, MOST, Wrote};
 use crate::differ::{Found, Port};
 use oracle::oracle_api::{
     Answer, Converted, Form, Kind, List, Lists, Place, Raw, Refusal, State, Table, Yielded,
@@ -62,6 +63,28 @@ calls! {
     yz_skip(s: *const u8, n: usize, at: usize, count: u64) -> Four;
     yz_split(s: *const u8, n: usize, at: usize, count: u64) -> Four;
     yz_truncate(s: *const u8, n: usize, at: usize, count: u64) -> Four;
+}
+
+type Places = [u64; MOST];
+
+calls! {
+    yz_range_coverage(s: *const u8, n: usize, t: *const u8, m: usize, table_base: u64, offset: u64,
+        base: u64, size: u8, dwarf64: bool, version: u16, big: bool, begins: &mut Places,
+        ends: &mut Places) -> Four;
+    yz_location_coverage(s: *const u8, n: usize, t: *const u8, m: usize, table_base: u64,
+        offset: u64, base: u64, size: u8, dwarf64: bool, version: u16, big: bool, split: bool,
+        begins: &mut Places, ends: &mut Places) -> Four;
+    yz_coverage_from_canonical(s: *const u8, n: usize, begins: &mut Places,
+        ends: &mut Places) -> Four;
+    yz_coverage_from_sheet(s: *const u8, n: usize, begins: &mut Places, ends: &mut Places) -> Four;
+    yz_sheet(count: u64, begins: &Places, ends: &Places, o: *mut u8, k: usize) -> Four;
+    yz_canonical(count: u64, begins: &Places, ends: &Places, o: *mut u8, k: usize) -> Four;
+    yz_range_canonical(s: *const u8, n: usize, t: *const u8, m: usize, table_base: u64,
+        offset: u64, base: u64, size: u8, dwarf64: bool, version: u16, big: bool, o: *mut u8,
+        k: usize) -> Four;
+    yz_location_canonical(s: *const u8, n: usize, t: *const u8, m: usize, table_base: u64,
+        offset: u64, base: u64, size: u8, dwarf64: bool, version: u16, big: bool, split: bool,
+        o: *mut u8, k: usize) -> Four;
 }
 
 unsafe extern "C" {
@@ -432,5 +455,104 @@ impl Port for Ffi {
 
     fn min_tombstone(&self, size: u8) -> u64 {
         unsafe { yz_min_tombstone(size) }
+    }
+}
+
+/// A call that answers with a count; the words that aren't named must be 0.
+fn wrote(call: impl FnOnce(&mut Four) -> u64) -> Wrote {
+    let mut words = [OLD; 4];
+    let code = call(&mut words);
+    let unnamed = if code == 0 { &words[1..] } else { &words[..2] };
+    assert!(unnamed.iter().all(|&word| word == 0));
+    result(code, &words, |words| words[0])
+}
+
+impl Added for Ffi {
+    fn coverage(&self, list: &List, kept: &mut Kept) -> Wrote {
+        let (l, s, t) = (list, list.section(), list.table);
+        let (p, n, q, m) = (s.as_ptr(), s.len(), t.as_ptr(), t.len());
+        let (size, wide, version, big) = (l.address_size, l.dwarf64, l.version, l.big_endian);
+        let (from, offset, base) = (l.table_base, l.offset, l.base_address);
+        let Kept { begins, ends } = kept;
+        wrote(|out| unsafe {
+            if l.kind == Kind::Ranges {
+                yz_range_coverage(
+                    p, n, q, m, from, offset, base, size, wide, version, big, begins, ends, out,
+                )
+            } else {
+                yz_location_coverage(
+                    p,
+                    n,
+                    q,
+                    m,
+                    from,
+                    offset,
+                    base,
+                    size,
+                    wide,
+                    version,
+                    big,
+                    split(l),
+                    begins,
+                    ends,
+                    out,
+                )
+            }
+        })
+    }
+
+    fn coverage_from_canonical(&self, bytes: &[u8], kept: &mut Kept) -> Wrote {
+        let (p, n) = (bytes.as_ptr(), bytes.len());
+        let Kept { begins, ends } = kept;
+        wrote(|out| unsafe { yz_coverage_from_canonical(p, n, begins, ends, out) })
+    }
+
+    fn coverage_from_sheet(&self, sheet: &[u8], kept: &mut Kept) -> Wrote {
+        let (p, n) = (sheet.as_ptr(), sheet.len());
+        let Kept { begins, ends } = kept;
+        wrote(|out| unsafe { yz_coverage_from_sheet(p, n, begins, ends, out) })
+    }
+
+    fn sheet(&self, n: u64, kept: &Kept, output: &mut [u8]) -> Wrote {
+        let (o, k) = (output.as_mut_ptr(), output.len());
+        wrote(|out| unsafe { yz_sheet(n, &kept.begins, &kept.ends, o, k, out) })
+    }
+
+    fn canonical(&self, n: u64, kept: &Kept, output: &mut [u8]) -> Wrote {
+        let (o, k) = (output.as_mut_ptr(), output.len());
+        wrote(|out| unsafe { yz_canonical(n, &kept.begins, &kept.ends, o, k, out) })
+    }
+
+    fn canonical_of(&self, list: &List, output: &mut [u8]) -> Wrote {
+        let (l, s, t) = (list, list.section(), list.table);
+        let (p, n, q, m) = (s.as_ptr(), s.len(), t.as_ptr(), t.len());
+        let (size, wide, version, big) = (l.address_size, l.dwarf64, l.version, l.big_endian);
+        let (from, offset, base) = (l.table_base, l.offset, l.base_address);
+        let (o, k) = (output.as_mut_ptr(), output.len());
+        wrote(|out| unsafe {
+            if l.kind == Kind::Ranges {
+                yz_range_canonical(
+                    p, n, q, m, from, offset, base, size, wide, version, big, o, k, out,
+                )
+            } else {
+                yz_location_canonical(
+                    p,
+                    n,
+                    q,
+                    m,
+                    from,
+                    offset,
+                    base,
+                    size,
+                    wide,
+                    version,
+                    big,
+                    split(l),
+                    o,
+                    k,
+                    out,
+                )
+            }
+        })
     }
 }

@@ -7,6 +7,8 @@
 //!   real <file> [model]
 
 #[allow(dead_code)]
+mod added;
+#[allow(dead_code)]
 mod differ;
 #[path = "real/dumps.rs"]
 mod dumps;
@@ -21,9 +23,11 @@ use std::collections::{BTreeMap, BTreeSet};
 use std::fmt::Debug;
 use std::path::Path;
 
-use differ::Port;
+use added::Added;
+use differ::{Met, Port};
 use dumps::{Dumped, Shown, Unit};
 use elf::Elf;
+use generator::Random;
 use oracle::oracle_api::{self as gimli, *};
 
 /// A line of the table.
@@ -232,7 +236,7 @@ impl<'a> Section<'a> {
     }
 
     /// The walk of a list, compared with the oracle's when it is first met.
-    fn walked(&mut self, port: &impl Port, start: u64, context: Context) -> &Walked {
+    fn walked(&mut self, port: &impl Added, start: u64, context: Context) -> &Walked {
         if !self.met.contains_key(&(start, context)) {
             let list = self.list(start, context);
             let mut walked = Walked::default();
@@ -240,6 +244,7 @@ impl<'a> Section<'a> {
             walk(port, &list, &mut self.row, &mut walked);
             walk_raw(port, &list, &mut self.row, &mut walked);
             self.lookups(port, &list, &walked);
+            self.added(port, &list);
             if self.row.differences > before && before < SHOWN {
                 println!("  in {} at {start:x}, {context:x?}", self.name);
             }
@@ -249,6 +254,17 @@ impl<'a> Section<'a> {
             self.met.insert((start, context), walked);
         }
         &self.met[&(start, context)]
+    }
+
+    /// Coverage, sheet and canonical list, beside the plain version.
+    fn added(&mut self, port: &impl Added, list: &List) {
+        let mut met = Met::default();
+        let answer = added::list(port, list, &mut Random::new(list.offset), false, &mut met);
+        self.row.calls += met.calls;
+        if let Err(error) = answer {
+            self.row.differences += 1;
+            println!("{error}");
+        }
     }
 
     /// The bounds of each range that is yielded, looked up.
@@ -267,7 +283,7 @@ impl<'a> Section<'a> {
     }
 
     /// Walks list after list from a place up to another.
-    fn through(&mut self, port: &impl Port, from: u64, to: u64, context: Context) {
+    fn through(&mut self, port: &impl Added, from: u64, to: u64, context: Context) {
         let mut start = from;
         while start < to {
             let old_pairs = context.version <= 4 && self.kind != Kind::SplitLocations;
@@ -281,7 +297,7 @@ impl<'a> Section<'a> {
     }
 
     /// Headers, offset tables and all lists behind them, from version 5 on.
-    fn tables(&mut self, port: &impl Port, context: Context) {
+    fn tables(&mut self, port: &impl Added, context: Context) {
         let mut at = 0;
         while at < self.bytes.len() {
             let rest = &self.bytes[at..];
@@ -304,7 +320,7 @@ impl<'a> Section<'a> {
         }
     }
 
-    fn offsets(&mut self, port: &impl Port, base: u64, header: Lists, context: Context) {
+    fn offsets(&mut self, port: &impl Added, base: u64, header: Lists, context: Context) {
         for index in 0..=u64::from(header.entry_count) {
             let (bytes, big, wide) = (self.bytes, self.big_endian, header.dwarf64);
             let oracle = gimli::get_offset(self.kind, bytes, big, wide, base, index);
@@ -370,7 +386,7 @@ impl<'a> Section<'a> {
 
     /// Holds a list against llvm-dwarfdump: a list is shown as raw entries or
     /// as ranges.
-    fn against_dump(&mut self, port: &impl Port, dumped: &Dumped, context: Context) {
+    fn against_dump(&mut self, port: &impl Added, dumped: &Dumped, context: Context) {
         self.walked(port, dumped.start, context);
         let walked = &self.met[&(dumped.start, context)];
         if walked.refused {
@@ -398,8 +414,14 @@ impl<'a> Section<'a> {
     /// Holds a list against readelf: the places of its entries, and its ranges
     /// where it finds them. It loses its way at a dead base, does not always
     /// find the address table, and shows the offset pairs of version 5 without
-    /// their unit's base address.
-    fn against_readelf(&mut self, port: &impl Port, dumped: &Dumped, context: Context) {
+    /// their unit's base address. Ranges need the unit to be known.
+    fn against_readelf(
+        &mut self,
+        port: &impl Added,
+        dumped: &Dumped,
+        context: Context,
+        unit: bool,
+    ) {
         self.walked(port, dumped.start, context);
         let walked = &self.met[&(dumped.start, context)];
         if walked.refused {
@@ -417,7 +439,7 @@ impl<'a> Section<'a> {
                 .zip(&walked.raw)
                 .all(|(shown, &(place, _))| shown.place.is_none_or(|shown| shown == place));
         self.row.readelf_places += 1;
-        let known = !walked.by_index() && !(walked.by_unit() && context.base_address != 0);
+        let known = unit && !walked.by_index() && !(walked.by_unit() && context.base_address != 0);
         self.row.readelf_ranges += u64::from(known);
         if !places || known && !self.ranges_fit(dumped, walked, context) {
             self.differs("readelf", dumped, context);
@@ -517,7 +539,7 @@ impl Build {
 
     /// A section with all lists that the dumps, the offset tables and a walk
     /// through it know.
-    fn section(&self, port: &impl Port, file: &File, name: &str, kind: Kind) -> Option<Row> {
+    fn section(&self, port: &impl Added, file: &File, name: &str, kind: Kind) -> Option<Row> {
         let bytes = file.elf.sections.get(name).filter(|bytes| !bytes.is_empty())?;
         let split = file.name.ends_with(".dwo");
         let skeleton = if split { self.skeleton(file) } else { None };
@@ -532,7 +554,7 @@ impl Build {
         // Without a unit, the least that a list is read with.
         let plain = contexts.iter().next().copied().unwrap_or(Context {
             version: if is_new(name) { 5 } else { 4 },
-            address_size: 8,
+            address_size: file.elf.address_size,
             dwarf64: false,
             base_address: 0,
             table_base: 0,
@@ -550,7 +572,10 @@ impl Build {
             for dumped in dumps::readelf(&file.readelf, name) {
                 // Only the unit that points to a list gives it a base address.
                 for &context in starts.get(&dumped.start).into_iter().flatten() {
-                    section.against_readelf(port, &dumped, context);
+                    section.against_readelf(port, &dumped, context, true);
+                }
+                if file.units.is_empty() {
+                    section.against_readelf(port, &dumped, plain, false);
                 }
             }
         }
@@ -566,7 +591,7 @@ impl Build {
     /// with; held against what the dump prints there.
     fn starts(
         &self,
-        port: &impl Port,
+        port: &impl Added,
         file: &File,
         name: &str,
         section: &mut Section,
@@ -607,7 +632,7 @@ impl Build {
         starts
     }
 
-    fn run(&self, port: &impl Port) -> Row {
+    fn run(&self, port: &impl Added) -> Row {
         let mut all = Row::default();
         for (name, kind) in SECTIONS {
             let mut row = Row::default();
@@ -650,7 +675,7 @@ fn addresses(port: &impl Port, file: &File, linked: bool, row: &mut Row) {
     if file.units.iter().any(|unit| unit.version >= 5) {
         tables(port, section, big, row, &mut got);
     } else {
-        let size = file.units.first().map_or(8, |unit| unit.address_size);
+        let size = file.units.first().map_or(file.elf.address_size, |unit| unit.address_size);
         row.lists += 1;
         for index in 0..=(section.len() / usize::from(size)) as u64 {
             let oracle = gimli::get_address(section, big, size, 0, index);
@@ -699,7 +724,7 @@ fn tables(port: &impl Port, section: &[u8], big: bool, row: &mut Row, got: &mut 
     }
 }
 
-fn run(port: &impl Port, builds: &str) -> u64 {
+fn run(port: &impl Added, builds: &str) -> u64 {
     print!("{:<26} {:<2} {:<14} {:<6} ", "compiler", "v", "flavour", "order");
     print!(" {:<19}", "section");
     for head in

@@ -5,6 +5,8 @@ use std::collections::BTreeMap;
 #[derive(Default)]
 pub struct Elf {
     pub big_endian: bool,
+    /// The size of an address in the file's own headers.
+    pub address_size: u8,
     pub sections: BTreeMap<String, Vec<u8>>,
 }
 
@@ -49,7 +51,7 @@ pub fn read(bytes: &[u8]) -> Option<Elf> {
         Some((r.number(at, 4)? as usize, bytes.get(start..start.checked_add(length)?)?))
     };
     let (_, names) = section(names)?;
-    let mut elf = Elf { big_endian, ..Elf::default() };
+    let mut elf = Elf { big_endian, address_size: word as u8, ..Elf::default() };
     for index in 1..count {
         let (name, data) = section(index)?;
         let name: Vec<u8> = names[name..].iter().copied().take_while(|&byte| byte != 0).collect();

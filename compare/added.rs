@@ -1,0 +1,336 @@
+//! Compares the calls that gimli has no match for: coverage, sheets, canonical
+//! lists. Beside them stands a plain version, written for the purpose: gimli's
+//! walk gathered in a vector, sorted and merged, and document 01's bytes.
+
+use generator::Random;
+use oracle::oracle_api::*;
+
+use crate::differ::{Met, Port};
+
+/// How many ranges a coverage holds, and the walk that makes one may yield.
+pub const MOST: usize = 1024;
+
+pub type Ranges = Vec<(u64, u64)>;
+
+/// How many ranges were made, or how many bytes written.
+pub type Wrote = Result<u64, Refusal>;
+
+/// A coverage's two arrays.
+#[derive(Clone)]
+pub struct Kept {
+    pub begins: [u64; MOST],
+    pub ends: [u64; MOST],
+}
+
+/// The calls compared. A call that makes a coverage writes it to `kept`.
+pub trait Added: Port {
+    fn coverage(&self, list: &List, kept: &mut Kept) -> Wrote;
+    fn coverage_from_canonical(&self, bytes: &[u8], kept: &mut Kept) -> Wrote;
+    fn coverage_from_sheet(&self, sheet: &[u8], kept: &mut Kept) -> Wrote;
+    fn sheet(&self, n: u64, kept: &Kept, output: &mut [u8]) -> Wrote;
+    fn canonical(&self, n: u64, kept: &Kept, output: &mut [u8]) -> Wrote;
+    fn canonical_of(&self, list: &List, output: &mut [u8]) -> Wrote;
+}
+
+pub fn no<T>(number: u8) -> Result<T, Refusal> {
+    Err(Refusal { number, value: 0 })
+}
+
+/// Every range of gimli's walk, sorted and merged. Opening's refusals come
+/// first, 6 before 1; then the first of the walk's and 10.
+pub fn coverage(list: &List) -> Result<Ranges, Refusal> {
+    if ![1, 2, 4, 8].contains(&list.address_size) {
+        return Err(Refusal { number: 6, value: u64::from(list.address_size) });
+    }
+    let mut walk = Walk::open(list)?;
+    let mut ranges = Ranges::new();
+    loop {
+        match walk.next() {
+            Answer::Entry(_) if ranges.len() == MOST => return no(10),
+            Answer::Entry(entry) => ranges.push((entry.begin, entry.end)),
+            Answer::End => return Ok(merged(ranges)),
+            Answer::Refused(refusal) => return Err(refusal),
+        }
+    }
+}
+
+/// Overlapping and touching ranges become one.
+pub fn merged(mut ranges: Ranges) -> Ranges {
+    ranges.sort();
+    let mut runs = Ranges::new();
+    for (begin, end) in ranges {
+        match runs.last_mut() {
+            Some(run) if begin <= run.1 => run.1 = run.1.max(end),
+            _ => runs.push((begin, end)),
+        }
+    }
+    runs
+}
+
+/// A canonical list as the list that it is.
+pub fn canonical_list(bytes: &[u8]) -> List<'_> {
+    List {
+        kind: Kind::Ranges,
+        old: &[],
+        new: bytes,
+        offset: 0,
+        version: 5,
+        address_size: 8,
+        dwarf64: false,
+        big_endian: false,
+        base_address: 0,
+        table: &[],
+        table_base: 0,
+    }
+}
+
+fn lawful(ranges: &[(u64, u64)]) -> bool {
+    ranges.len() <= MOST
+        && ranges.iter().all(|&(begin, end)| begin < end && begin < u64::MAX - 1)
+        && ranges.windows(2).all(|pair| pair[1].0 > pair[0].1)
+}
+
+/// The ranges of a coverage that is handed in, or 12.
+pub fn handed(n: u64, kept: &Kept) -> Result<Ranges, Refusal> {
+    if n > MOST as u64 {
+        return no(12);
+    }
+    let pairs = kept.begins.iter().copied().zip(kept.ends.iter().copied());
+    let ranges: Ranges = pairs.take(n as usize).collect();
+    if lawful(&ranges) { Ok(ranges) } else { no(12) }
+}
+
+pub fn sheet(ranges: &Ranges) -> Vec<u8> {
+    let mut bytes = (ranges.len() as u16).to_le_bytes().to_vec();
+    bytes.extend(8u16.to_le_bytes());
+    ranges.iter().for_each(|(begin, _)| bytes.extend(begin.to_le_bytes()));
+    ranges.iter().for_each(|(_, end)| bytes.extend(end.to_le_bytes()));
+    bytes
+}
+
+/// The ranges of a sheet, or 12.
+pub fn sheet_ranges(bytes: &[u8]) -> Result<Ranges, Refusal> {
+    let &[a, b, 8, 0, ref rest @ ..] = bytes else { return no(12) };
+    let count = usize::from(u16::from_le_bytes([a, b]));
+    if rest.len() != 16 * count {
+        return no(12);
+    }
+    let word = |bytes: &[u8]| u64::from_le_bytes(bytes.try_into().expect("eight bytes"));
+    let words: Vec<u64> = rest.chunks(8).map(word).collect();
+    let (begins, ends) = words.split_at(count);
+    let ranges: Ranges = begins.iter().copied().zip(ends.iter().copied()).collect();
+    if lawful(&ranges) { Ok(ranges) } else { no(12) }
+}
+
+pub fn canonical(ranges: &Ranges) -> Vec<u8> {
+    let mut bytes = Vec::new();
+    for (begin, end) in ranges {
+        bytes.push(7);
+        bytes.extend(begin.to_le_bytes());
+        let mut length = end - begin;
+        while length >= 0x80 {
+            bytes.push(length as u8 | 0x80);
+            length >>= 7;
+        }
+        bytes.push(length as u8);
+    }
+    bytes.push(0);
+    bytes
+}
+
+/// A coverage as it is given back: 0 past the count.
+pub fn kept(ranges: &Ranges) -> Kept {
+    let mut kept = Kept { begins: [0; MOST], ends: [0; MOST] };
+    for (at, &(begin, end)) in ranges.iter().enumerate() {
+        (kept.begins[at], kept.ends[at]) = (begin, end);
+    }
+    kept
+}
+
+/// Arrays full of what no call may read: a number, or lawful ranges.
+fn garbage(r: &mut Random) -> Kept {
+    let fill = r.pick(&[0x5555_5555_5555_5555, u64::MAX, 0, 1]);
+    let mut kept = Kept { begins: [fill; MOST], ends: [fill ^ 0xaa; MOST] };
+    for _ in 0..8 {
+        let at = r.below(MOST as u64) as usize;
+        (kept.begins[at], kept.ends[at]) = (r.next(), r.next());
+    }
+    kept
+}
+
+fn count(met: &mut Met, call: &str, wrote: &Wrote) {
+    match wrote {
+        Ok(_) => met.met(format!("{call} answered")),
+        Err(refusal) => met.met(format!("{call} refused {}", refusal.number)),
+    }
+}
+
+fn first_other<T: PartialEq>(one: &[T], other: &[T]) -> Option<usize> {
+    one.iter().zip(other).position(|(one, other)| one != other)
+}
+
+/// A call that makes a coverage: its answer, and both arrays whole.
+fn made(
+    met: &mut Met,
+    call: &str,
+    plain: &Result<Ranges, Refusal>,
+    r: &mut Random,
+    port: impl FnOnce(&mut Kept) -> Wrote,
+) -> Result<(), String> {
+    let mut got = garbage(r);
+    let (wrote, after) = match plain {
+        Ok(ranges) => (Ok(ranges.len() as u64), kept(ranges)),
+        Err(refusal) => (Err(*refusal), got.clone()),
+    };
+    count(met, call, &wrote);
+    if let Ok(n @ 1023..) = wrote {
+        met.met(format!("{call} of {n} runs"));
+    }
+    met.same(call, &wrote, &port(&mut got))?;
+    for (name, plain, got) in
+        [("begins", &after.begins, &got.begins), ("ends", &after.ends, &got.ends)]
+    {
+        if let Some(at) = first_other(plain, got) {
+            return Err(format!("{call}: {name}[{at}]: {:x}, port {:x}", plain[at], got[at]));
+        }
+    }
+    Ok(())
+}
+
+/// A call that writes bytes to an output of a length: its answer, the output
+/// whole, and what lies behind it.
+fn wrote(
+    met: &mut Met,
+    call: &str,
+    plain: &Result<Vec<u8>, Refusal>,
+    length: usize,
+    r: &mut Random,
+    port: impl FnOnce(&mut [u8]) -> Wrote,
+) -> Result<(), String> {
+    let fill = r.next() as u8;
+    let mut got: Vec<u8> = (0..length + 24).map(|at| fill.wrapping_add(at as u8)).collect();
+    let mut after = got.clone();
+    let wrote = match plain {
+        Ok(bytes) if bytes.len() > length => no(11),
+        Ok(bytes) => {
+            after[..bytes.len()].copy_from_slice(bytes);
+            Ok(bytes.len() as u64)
+        }
+        Err(refusal) => Err(*refusal),
+    };
+    count(met, call, &wrote);
+    met.same(&format!("{call} into {length}"), &wrote, &port(&mut got[..length]))?;
+    match first_other(&after, &got) {
+        Some(at) => Err(format!("{call} into {length}: byte {at} of the output")),
+        None => Ok(()),
+    }
+}
+
+/// Lengths around the one that is needed; all of them where it is small.
+fn lengths(r: &mut Random, plain: &Result<Vec<u8>, Refusal>, all: bool) -> Vec<usize> {
+    let Ok(bytes) = plain else { return vec![0, r.below(64) as usize] };
+    let needed = bytes.len();
+    if all && needed <= 64 {
+        return (0..needed + 4).collect();
+    }
+    let below = r.below(needed as u64) as usize;
+    let above = needed + r.below(40) as usize;
+    if all {
+        return vec![0, 1, below, needed - 1, needed, needed + 1, above];
+    }
+    vec![r.pick(&[0, below, needed - 1]), r.pick(&[needed, needed, needed + 1, above])]
+}
+
+/// All calls about a list. `all` for every length around the needed one.
+pub fn list(
+    port: &impl Added,
+    list: &List,
+    r: &mut Random,
+    all: bool,
+    met: &mut Met,
+) -> Result<(), String> {
+    let plain = coverage(list);
+    made(met, "coverage", &plain, r, |kept| port.coverage(list, kept))?;
+    let bytes = plain.as_ref().map(canonical).map_err(|refusal| *refusal);
+    for length in lengths(r, &bytes, all) {
+        let call = "canonical of a list";
+        wrote(met, call, &bytes, length, r, |output| port.canonical_of(list, output))?;
+    }
+    match plain {
+        Ok(ranges) if all || r.one_in(1, 4) => {
+            let mut kept = garbage(r);
+            for (at, &(begin, end)) in ranges.iter().enumerate() {
+                (kept.begins[at], kept.ends[at]) = (begin, end);
+            }
+            handed_in(port, ranges.len() as u64, &kept, r, all, met)
+        }
+        _ => Ok(()),
+    }
+}
+
+/// All calls about a coverage that is handed in, and the ways back from what
+/// they write.
+pub fn handed_in(
+    port: &impl Added,
+    n: u64,
+    kept: &Kept,
+    r: &mut Random,
+    all: bool,
+    met: &mut Met,
+) -> Result<(), String> {
+    let ranges = handed(n, kept);
+    let bytes = ranges.as_ref().map(sheet).map_err(|refusal| *refusal);
+    for length in lengths(r, &bytes, all) {
+        wrote(met, "sheet", &bytes, length, r, |output| port.sheet(n, kept, output))?;
+    }
+    if let Ok(bytes) = &bytes {
+        from_sheet(port, bytes, r, met)?;
+    }
+    let bytes = ranges.as_ref().map(canonical).map_err(|refusal| *refusal);
+    for length in lengths(r, &bytes, all) {
+        wrote(met, "canonical", &bytes, length, r, |output| port.canonical(n, kept, output))?;
+    }
+    match bytes {
+        Ok(bytes) => {
+            // The plain way back must hold too.
+            assert_eq!(coverage(&canonical_list(&bytes)), ranges);
+            from_canonical(port, &bytes, r, met)
+        }
+        Err(_) => Ok(()),
+    }
+}
+
+pub fn from_sheet(
+    port: &impl Added,
+    bytes: &[u8],
+    r: &mut Random,
+    met: &mut Met,
+) -> Result<(), String> {
+    let plain = sheet_ranges(bytes);
+    made(met, "coverage from a sheet", &plain, r, |kept| port.coverage_from_sheet(bytes, kept))
+}
+
+pub fn from_canonical(
+    port: &impl Added,
+    bytes: &[u8],
+    r: &mut Random,
+    met: &mut Met,
+) -> Result<(), String> {
+    let plain = coverage(&canonical_list(bytes));
+    let call = "coverage from a canonical list";
+    made(met, call, &plain, r, |kept| port.coverage_from_canonical(bytes, kept))
+}
+
+/// A list with an address size that isn't read.
+pub fn other_size(
+    port: &impl Added,
+    list: &List,
+    r: &mut Random,
+    met: &mut Met,
+) -> Result<(), String> {
+    let refused = coverage(list);
+    let bytes = refused.as_ref().map(canonical).map_err(|refusal| *refusal);
+    made(met, "coverage, other size", &refused, r, |kept| port.coverage(list, kept))?;
+    let call = "canonical of a list, other size";
+    wrote(met, call, &bytes, 32, r, |output| port.canonical_of(list, output))
+}
