@@ -46,6 +46,8 @@ struct Row {
     left_out: u64,
     refused: u64,
     differences: u64,
+    /// How often each form of a raw entry was met.
+    forms: BTreeMap<String, u64>,
 }
 
 impl Row {
@@ -60,6 +62,9 @@ impl Row {
         self.left_out += other.left_out;
         self.refused += other.refused;
         self.differences += other.differences;
+        for (form, count) in &other.forms {
+            *self.forms.entry(form.clone()).or_default() += count;
+        }
     }
 
     fn print(&self, build: &str, section: &str) {
@@ -250,6 +255,11 @@ impl<'a> Section<'a> {
             }
             self.row.lists += 1;
             self.row.entries += walked.raw.len() as u64;
+            for (_, raw) in &walked.raw {
+                let version = if context.version <= 4 { "to 4" } else { "from 5" };
+                let form = format!("{:?} {version} {:?}", self.kind, raw.form);
+                *self.row.forms.entry(form).or_default() += 1;
+            }
             self.row.refused += u64::from(walked.refused);
             self.met.insert((start, context), walked);
         }
@@ -744,6 +754,9 @@ fn run(port: &impl Added, builds: &str) -> u64 {
         all.join(&build.run(port));
     }
     all.print(&format!("{count} builds"), "");
+    for (form, count) in &all.forms {
+        println!("{count:>12} {form}");
+    }
     println!(
         "raw, ranges: lists held against llvm-dwarfdump's entries and ranges; places, ranges: \
          against readelf's; left: printed lists that the tool is known to read otherwise; \
