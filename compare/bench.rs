@@ -1,0 +1,349 @@
+//! Port and gimli on the same bytes, in one process.
+//!
+//!   bench [--quick] [filter]         times, and how they compare
+//!   bench --names [filter]           the rows' names
+//!   bench --count side row passes    the row so often on one side: `port`,
+//!                                    `one` or `several`
+//!   bench --marked [filter]          all rows and sides, a call of `bench_mark`
+//!                                    before each and after it
+
+/// A task so many times; the sum of the last. The outer loop goes round once;
+/// by it the compiler takes the inner one for hot, and inlines all of gimli's
+/// readers where `next` has one caller, as in a program with nothing else.
+macro_rules! repeat {
+    ($passes:expr, $once:expr) => {{
+        let mut sum = 0;
+        for _ in 0..std::hint::black_box(1) {
+            for _ in 0..$passes {
+                sum = std::hint::black_box($once);
+            }
+        }
+        sum
+    }};
+}
+
+mod bench_gimli;
+mod bench_port;
+mod bench_rows;
+#[cfg(sets)]
+mod bench_sets;
+
+#[cfg(sets)]
+use bench_gimli::{Covering, Writing};
+use bench_gimli::{Lists, Seeking, Walking};
+use bench_rows::{Kind, Row, Task};
+use oracle::endianity::RunTimeEndian;
+use std::hint::black_box;
+
+/// The row's task on one side, so many times; what it answers goes into a sum.
+type Run<'a> = Box<dyn FnMut(u64) -> u64 + 'a>;
+
+const SIDES: [&str; 3] = ["port", "one", "several"];
+
+/// Port, gimli with one caller, gimli with several.
+fn sides(row: &Row) -> Option<[Run<'_>; 3]> {
+    Some(match row.task {
+        Task::Walk => walks(row),
+        Task::Lookup(address) => lookups(row, address),
+        Task::Coverage => return coverages(row),
+        Task::Canonical => return canonicals(row),
+    })
+}
+
+fn walks(row: &Row) -> [Run<'_>; 3] {
+    let (one, several) = (Lists::<Walking>::new(row), Lists::<RunTimeEndian>::new(row));
+    if row.kind == Kind::Ranges {
+        [
+            Box::new(|passes| bench_port::walk_ranges(row, passes)),
+            Box::new(move |passes| bench_gimli::walk_ranges(&one, passes)),
+            Box::new(move |passes| bench_gimli::walk_ranges(&several, passes)),
+        ]
+    } else {
+        [
+            Box::new(|passes| bench_port::walk_locations(row, passes)),
+            Box::new(move |passes| bench_gimli::walk_locations(&one, passes)),
+            Box::new(move |passes| bench_gimli::walk_locations(&several, passes)),
+        ]
+    }
+}
+
+fn lookups(row: &Row, address: u64) -> [Run<'_>; 3] {
+    let (one, several) = (Lists::<Seeking>::new(row), Lists::<RunTimeEndian>::new(row));
+    if row.kind == Kind::Ranges {
+        [
+            Box::new(move |passes| bench_port::lookup_range(row, address, passes)),
+            Box::new(move |passes| bench_gimli::lookup_range(&one, address, passes)),
+            Box::new(move |passes| bench_gimli::lookup_range(&several, address, passes)),
+        ]
+    } else {
+        [
+            Box::new(move |passes| bench_port::lookup_location(row, address, passes)),
+            Box::new(move |passes| bench_gimli::lookup_location(&one, address, passes)),
+            Box::new(move |passes| bench_gimli::lookup_location(&several, address, passes)),
+        ]
+    }
+}
+
+#[cfg(not(sets))]
+fn coverages(_: &Row) -> Option<[Run<'_>; 3]> {
+    None
+}
+
+#[cfg(not(sets))]
+fn canonicals(_: &Row) -> Option<[Run<'_>; 3]> {
+    None
+}
+
+#[cfg(sets)]
+fn coverages(row: &Row) -> Option<[Run<'_>; 3]> {
+    use bench_sets::Coverage;
+    let (one, several) = (Lists::<Covering>::new(row), Lists::<RunTimeEndian>::new(row));
+    let (mut found, mut found_several) = (Vec::new(), Vec::new());
+    let mut made = Coverage::new();
+    Some([
+        Box::new(move |passes| bench_port::coverage(row, &mut made, passes)),
+        Box::new(move |passes| bench_sets::coverage(&one, &mut found, passes)),
+        Box::new(move |passes| bench_sets::coverage(&several, &mut found_several, passes)),
+    ])
+}
+
+#[cfg(sets)]
+fn canonicals(row: &Row) -> Option<[Run<'_>; 3]> {
+    let (one, several) = (Lists::<Writing>::new(row), Lists::<RunTimeEndian>::new(row));
+    let (mut found, mut found_several) = (Vec::new(), Vec::new());
+    let outputs = [(); 3].map(|_| vec![0; bench_sets::LONGEST]);
+    let [mut a, mut b, mut c] = outputs;
+    Some([
+        Box::new(move |passes| bench_port::canonical(row, &mut a, passes)),
+        Box::new(move |passes| bench_sets::canonical(&one, &mut found, &mut b, passes)),
+        Box::new(move |passes| bench_sets::canonical(&several, &mut found_several, &mut c, passes)),
+    ])
+}
+
+/// Both sides must have read the same before anything is timed.
+fn check(row: &Row, runs: &mut [Run<'_>; 3]) {
+    let lists = Lists::<RunTimeEndian>::new(row);
+    let yielded = match row.kind {
+        Kind::Ranges => bench_gimli::count_ranges(&lists),
+        _ => bench_gimli::count_locations(&lists),
+    };
+    assert_eq!(yielded, row.yields, "{}", row.name);
+    let sums = runs.each_mut().map(|run| run(1));
+    assert!(sums[0] == sums[1] && sums[1] == sums[2], "{}: {sums:x?}", row.name);
+}
+
+struct Settings {
+    rounds: usize,
+    /// Nanoseconds that one side runs in one round.
+    sample: f64,
+}
+
+fn time(run: &mut Run<'_>, passes: u64) -> f64 {
+    let start = clock();
+    black_box(run(passes));
+    clock() - start
+}
+
+/// Nanoseconds of this thread on a processor, so that time given to other
+/// processes doesn't count.
+#[cfg(target_os = "linux")]
+fn clock() -> f64 {
+    unsafe extern "C" {
+        fn clock_gettime(clock: i32, time: &mut [i64; 2]) -> i32;
+    }
+    const CLOCK_THREAD_CPUTIME_ID: i32 = 3;
+    let mut time = [0; 2];
+    assert!(unsafe { clock_gettime(CLOCK_THREAD_CPUTIME_ID, &mut time) } == 0);
+    time[0] as f64 * 1e9 + time[1] as f64
+}
+
+#[cfg(not(target_os = "linux"))]
+fn clock() -> f64 {
+    use std::sync::OnceLock;
+    use std::time::Instant;
+    static START: OnceLock<Instant> = OnceLock::new();
+    START.get_or_init(Instant::now).elapsed().as_nanos() as f64
+}
+
+/// So many passes that the faster side fills a sample.
+fn passes(runs: &mut [Run<'_>; 3], sample: f64) -> u64 {
+    let mut passes = 1;
+    loop {
+        let times = runs.each_mut().map(|run| time(run, passes));
+        let least = times.into_iter().fold(f64::INFINITY, f64::min);
+        if least >= sample {
+            return passes;
+        }
+        let factor = (sample / least.max(1.0)).clamp(1.2, 16.0);
+        passes = (passes as f64 * factor) as u64 + 1;
+    }
+}
+
+/// A sorted sample.
+struct Spread(Vec<f64>);
+
+impl Spread {
+    fn new(mut values: Vec<f64>) -> Spread {
+        values.sort_by(f64::total_cmp);
+        Spread(values)
+    }
+
+    fn at(&self, part: f64) -> f64 {
+        self.0[((self.0.len() - 1) as f64 * part).round() as usize]
+    }
+
+    fn median(&self) -> f64 {
+        self.at(0.5)
+    }
+}
+
+struct Measured {
+    name: String,
+    /// Nanoseconds for each entry: port, one caller, several.
+    times: [f64; 3],
+    /// Port to gimli, round by round: one caller, several.
+    ratios: [Spread; 2],
+}
+
+fn measure(row: &Row, runs: &mut [Run<'_>; 3], settings: &Settings) -> Measured {
+    let passes = passes(runs, settings.sample);
+    let rounds: Vec<[f64; 3]> =
+        (0..settings.rounds).map(|_| runs.each_mut().map(|run| time(run, passes))).collect();
+    let entries = (passes * row.entries) as f64;
+    let median =
+        |side: usize| Spread::new(rounds.iter().map(|round| round[side]).collect()).median();
+    let ratios =
+        |side: usize| Spread::new(rounds.iter().map(|round| round[0] / round[side]).collect());
+    Measured {
+        name: row.name.clone(),
+        times: [0, 1, 2].map(|side| median(side) / entries),
+        ratios: [ratios(1), ratios(2)],
+    }
+}
+
+fn header() {
+    println!(
+        "{:44} {:>8} {:>8} {:>8}   {:31}   {:31}",
+        "ns for each entry",
+        "port",
+        "one",
+        "several",
+        "port/one: median quartiles range",
+        "port/several"
+    );
+}
+
+fn print(measured: &Measured) {
+    let ratio = |spread: &Spread| {
+        format!(
+            "{:5.2}  {:5.2} {:5.2}  {:5.2} {:5.2}",
+            spread.median(),
+            spread.at(0.25),
+            spread.at(0.75),
+            spread.at(0.0),
+            spread.at(1.0)
+        )
+    };
+    let [port, one, several] = measured.times;
+    let [to_one, to_several] = &measured.ratios;
+    println!(
+        "{:44} {port:8.2} {one:8.2} {several:8.2}   {:31}   {:31}",
+        measured.name,
+        ratio(to_one),
+        ratio(to_several)
+    );
+}
+
+fn summary(all: &mut [Measured]) {
+    for (side, word) in [(0, "one caller"), (1, "several callers")] {
+        let ratios = Spread::new(all.iter().map(|row| row.ratios[side].median()).collect());
+        let mean = ratios.0.iter().map(|ratio| ratio.ln()).sum::<f64>() / ratios.0.len() as f64;
+        let above = ratios.0.iter().filter(|&&ratio| ratio > 1.0).count();
+        println!(
+            "port/gimli, {word}: {} rows, {above} above 1; best {:.2}, median {:.2}, \
+             geometric mean {:.2}, worst {:.2}",
+            ratios.0.len(),
+            ratios.at(0.0),
+            ratios.median(),
+            mean.exp(),
+            ratios.at(1.0)
+        );
+    }
+    all.sort_by(|a, b| b.ratios[0].median().total_cmp(&a.ratios[0].median()));
+    println!("the worst, to one caller:");
+    header();
+    all.iter().take(10).for_each(print);
+}
+
+fn chosen(filter: &str) -> Vec<Row> {
+    let mut rows = bench_rows::rows();
+    rows.retain(|row| row.name.contains(filter) && sides(row).is_some());
+    rows
+}
+
+fn table(filter: &str, settings: &Settings) {
+    let rows = chosen(filter);
+    assert!(!rows.is_empty(), "no row has {filter} in its name");
+    println!("{} rounds of port, one, several", settings.rounds);
+    header();
+    let mut all = Vec::new();
+    for row in &rows {
+        let mut runs = sides(row).expect("chosen");
+        check(row, &mut runs);
+        let measured = measure(row, &mut runs, settings);
+        print(&measured);
+        all.push(measured);
+    }
+    println!();
+    summary(&mut all);
+}
+
+fn count(side: &str, name: &str, passes: u64) {
+    let side = SIDES.iter().position(|&word| word == side).expect("port, one or several");
+    let rows = chosen(name);
+    let row = rows.iter().find(|row| row.name == name).expect("a row of this name");
+    let mut runs = sides(row).expect("chosen");
+    black_box(runs[side](passes));
+    println!("{} entries", passes * row.entries);
+}
+
+#[inline(never)]
+#[unsafe(no_mangle)]
+pub extern "C" fn bench_mark(section: u64) {
+    black_box(section);
+}
+
+/// One line for each pair of marks: row, side, and how many entries are read
+/// between them.
+fn marked(filter: &str) {
+    for row in &chosen(filter) {
+        let passes = 1 + 2000 / row.entries;
+        let mut runs = sides(row).expect("chosen");
+        for (side, run) in SIDES.iter().zip(&mut runs) {
+            println!("{} {side} {}", row.name, passes * row.entries);
+            black_box(run(1));
+            bench_mark(1);
+            black_box(run(passes));
+            bench_mark(0);
+        }
+    }
+}
+
+fn main() {
+    let arguments: Vec<String> = std::env::args().skip(1).collect();
+    let words: Vec<&str> = arguments.iter().map(String::as_str).collect();
+    let full = Settings { rounds: 25, sample: 500_000.0 };
+    let quick = Settings { rounds: 15, sample: 60_000.0 };
+    match words[..] {
+        [] => table("", &full),
+        ["--quick"] => table("", &quick),
+        ["--quick", filter] | [filter, "--quick"] => table(filter, &quick),
+        ["--names"] => chosen("").iter().for_each(|row| println!("{}", row.name)),
+        ["--names", filter] => chosen(filter).iter().for_each(|row| println!("{}", row.name)),
+        ["--count", side, row, passes] => count(side, row, passes.parse().expect("a number")),
+        ["--marked"] => marked(""),
+        ["--marked", filter] => marked(filter),
+        [filter] if !filter.starts_with('-') => table(filter, &full),
+        _ => panic!("usage: bench [--quick] [filter]"),
+    }
+}

@@ -1,0 +1,222 @@
+//! gimli's side: `next` of `RngListIter` and `LocListIter` over `EndianSlice`,
+//! in loops that are instantiated twice.
+//!
+//! Over `RunTimeEndian` all loops of the program share one `next`, which stays
+//! a call ("several callers"). Each of the byte orders `Walking`, `Seeking`,
+//! `Covering`, `Writing` is a `RunTimeEndian` under another name, so that its
+//! `next` has one caller and is inlined there ("one caller").
+
+use crate::bench_rows::{Kind, Row};
+use oracle::common::{DebugAddrBase, Encoding, Format, LocationListsOffset, RangeListsOffset};
+use oracle::endianity::{Endianity, RunTimeEndian};
+use oracle::read::{
+    DebugAddr, DebugLoc, DebugLocLists, DebugRanges, DebugRngLists, EndianSlice, Error,
+    LocListIter, LocationListEntry, LocationLists, Range, RangeLists, RngListIter,
+};
+use std::hint::black_box;
+
+macro_rules! orders {
+    ($($name:ident)*) => {
+        $(
+            #[derive(Debug, Default, Clone, Copy, PartialEq, Eq)]
+            pub struct $name(RunTimeEndian);
+
+            impl Endianity for $name {
+                #[inline]
+                fn is_big_endian(self) -> bool {
+                    self.0.is_big_endian()
+                }
+            }
+
+            impl From<RunTimeEndian> for $name {
+                fn from(order: RunTimeEndian) -> $name {
+                    $name(order)
+                }
+            }
+        )*
+    };
+}
+
+orders! { Walking Seeking }
+#[cfg(sets)]
+orders! { Covering Writing }
+
+/// A byte order that the program chooses when it runs.
+pub trait Order: Endianity + From<RunTimeEndian> {}
+
+impl<E: Endianity + From<RunTimeEndian>> Order for E {}
+
+type Slice<'a, E> = EndianSlice<'a, E>;
+
+/// A row as gimli's types, made once; opening a list starts from here.
+pub struct Lists<'a, E: Endianity> {
+    ranges: RangeLists<Slice<'a, E>>,
+    locations: LocationLists<Slice<'a, E>>,
+    table: DebugAddr<Slice<'a, E>>,
+    table_base: DebugAddrBase<usize>,
+    section: &'a [u8],
+    offset: usize,
+    encoding: Encoding,
+    base_address: u64,
+    split: bool,
+}
+
+impl<'a, E: Order> Lists<'a, E> {
+    pub fn new(row: &'a Row) -> Lists<'a, E> {
+        let order = if row.big_endian { RunTimeEndian::Big } else { RunTimeEndian::Little };
+        let order = E::from(order);
+        let (version, address_size) = (row.version, row.address_size);
+        let section = &row.section[..];
+        let (old, new) = if version <= 4 { (section, &[][..]) } else { (&[][..], section) };
+        Lists {
+            ranges: RangeLists::new(DebugRanges::new(old, order), DebugRngLists::new(new, order)),
+            locations: LocationLists::new(
+                DebugLoc::new(old, order),
+                DebugLocLists::new(new, order),
+            ),
+            table: DebugAddr::from(EndianSlice::new(&row.table, order)),
+            table_base: DebugAddrBase(row.table_base as usize),
+            section,
+            offset: row.offset as usize,
+            encoding: Encoding { address_size, format: Format::Dwarf32, version },
+            base_address: row.base_address,
+            split: row.kind == Kind::SplitLocations,
+        }
+    }
+
+    #[inline(always)]
+    pub fn open_ranges(&self) -> Result<RngListIter<Slice<'a, E>>, Error> {
+        let offset = RangeListsOffset(self.offset);
+        self.ranges.ranges(offset, self.encoding, self.base_address, &self.table, self.table_base)
+    }
+
+    #[inline(always)]
+    fn open_locations(&self) -> Result<LocListIter<Slice<'a, E>>, Error> {
+        let offset = LocationListsOffset(self.offset);
+        let (encoding, base, table) = (self.encoding, self.base_address, &self.table);
+        if self.split {
+            self.locations.locations_dwo(offset, encoding, base, table, self.table_base)
+        } else {
+            self.locations.locations(offset, encoding, base, table, self.table_base)
+        }
+    }
+
+    /// The place of an expression, counted from the section's start.
+    #[inline(always)]
+    fn place(&self, entry: &LocationListEntry<Slice<'a, E>>) -> u64 {
+        let bytes = entry.data.0.slice();
+        (bytes.as_ptr() as usize).wrapping_sub(self.section.as_ptr() as usize) as u64
+    }
+}
+
+fn refused(error: Error) -> ! {
+    panic!("gimli refused: {error:?}")
+}
+
+#[inline(never)]
+pub fn walk_ranges<E: Order>(lists: &Lists<'_, E>, passes: u64) -> u64 {
+    repeat!(passes, walk_ranges_once(black_box(lists)).unwrap_or_else(|error| refused(error)))
+}
+
+#[inline(always)]
+fn walk_ranges_once<E: Order>(lists: &Lists<'_, E>) -> Result<u64, Error> {
+    let mut walk = lists.open_ranges()?;
+    let mut sum = 0u64;
+    while let Some(range) = walk.next()? {
+        sum = sum.wrapping_add(range.begin) ^ range.end;
+    }
+    Ok(sum)
+}
+
+#[inline(never)]
+pub fn walk_locations<E: Order>(lists: &Lists<'_, E>, passes: u64) -> u64 {
+    repeat!(passes, walk_locations_once(black_box(lists)).unwrap_or_else(|error| refused(error)))
+}
+
+#[inline(always)]
+fn walk_locations_once<E: Order>(lists: &Lists<'_, E>) -> Result<u64, Error> {
+    let mut walk = lists.open_locations()?;
+    let mut sum = 0u64;
+    while let Some(entry) = walk.next()? {
+        let (place, length) = (lists.place(&entry), entry.data.0.len() as u64);
+        sum = (sum.wrapping_add(entry.range.begin) ^ entry.range.end).wrapping_add(place) ^ length;
+    }
+    Ok(sum)
+}
+
+fn holds(range: &Range, address: u64) -> bool {
+    range.begin <= address && address < range.end
+}
+
+#[inline(never)]
+pub fn lookup_range<E: Order>(lists: &Lists<'_, E>, address: u64, passes: u64) -> u64 {
+    repeat!(
+        passes,
+        match lookup_range_once(black_box(lists), address) {
+            Ok(Some(range)) => range.begin ^ range.end,
+            Ok(None) => 0,
+            Err(error) => refused(error),
+        }
+    )
+}
+
+#[inline(always)]
+fn lookup_range_once<E: Order>(lists: &Lists<'_, E>, address: u64) -> Result<Option<Range>, Error> {
+    let mut walk = lists.open_ranges()?;
+    while let Some(range) = walk.next()? {
+        if holds(&range, address) {
+            return Ok(Some(range));
+        }
+    }
+    Ok(None)
+}
+
+#[inline(never)]
+pub fn lookup_location<E: Order>(lists: &Lists<'_, E>, address: u64, passes: u64) -> u64 {
+    repeat!(
+        passes,
+        match lookup_location_once(black_box(lists), address) {
+            Ok(Some(entry)) => {
+                let (place, length) = (lists.place(&entry), entry.data.0.len() as u64);
+                (entry.range.begin ^ entry.range.end).wrapping_add(place) ^ length
+            }
+            Ok(None) => 0,
+            Err(error) => refused(error),
+        }
+    )
+}
+
+#[inline(always)]
+fn lookup_location_once<'a, E: Order>(
+    lists: &Lists<'a, E>,
+    address: u64,
+) -> Result<Option<LocationListEntry<Slice<'a, E>>>, Error> {
+    let mut walk = lists.open_locations()?;
+    while let Some(entry) = walk.next()? {
+        if holds(&entry.range, address) {
+            return Ok(Some(entry));
+        }
+    }
+    Ok(None)
+}
+
+/// How many entries a list yields: another caller of `next`.
+#[inline(never)]
+pub fn count_ranges(lists: &Lists<'_, RunTimeEndian>) -> u64 {
+    let mut walk = lists.open_ranges().unwrap_or_else(|error| refused(error));
+    let mut count = 0;
+    while walk.next().unwrap_or_else(|error| refused(error)).is_some() {
+        count += 1;
+    }
+    count
+}
+
+#[inline(never)]
+pub fn count_locations(lists: &Lists<'_, RunTimeEndian>) -> u64 {
+    let mut walk = lists.open_locations().unwrap_or_else(|error| refused(error));
+    let mut count = 0;
+    while walk.next().unwrap_or_else(|error| refused(error)).is_some() {
+        count += 1;
+    }
+    count
+}

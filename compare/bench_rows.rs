@@ -1,0 +1,420 @@
+//! The rows of the benchmark: lists made byte by byte, and what is done with
+//! each.
+
+#[derive(Debug, Clone, Copy, PartialEq, Eq)]
+pub enum Kind {
+    Ranges,
+    Locations,
+    /// `locations_dwo`.
+    SplitLocations,
+}
+
+#[derive(Debug, Clone, Copy, PartialEq, Eq)]
+pub enum Task {
+    /// Open the list and call `next` up to the end.
+    Walk,
+    /// The first entry that holds the address.
+    Lookup(u64),
+    Coverage,
+    Canonical,
+}
+
+/// A list, what its reading depends on, and the task. `yields` is how many
+/// ranges the list has, `entries` how many entries the task reads; a time is
+/// divided by it.
+pub struct Row {
+    pub name: String,
+    pub task: Task,
+    pub kind: Kind,
+    pub section: Vec<u8>,
+    pub offset: u64,
+    pub table: Vec<u8>,
+    pub table_base: u64,
+    pub base_address: u64,
+    pub version: u16,
+    pub address_size: u8,
+    pub big_endian: bool,
+    pub yields: u64,
+    pub entries: u64,
+}
+
+/// What an entry is, whatever its code in range and in location lists.
+#[derive(Debug, Clone, Copy, PartialEq, Eq)]
+enum Form {
+    BarePair,
+    BaseIndex,
+    StartEndIndex,
+    StartLengthIndex,
+    OffsetPair,
+    Default,
+    Base,
+    StartEnd,
+    StartLength,
+}
+
+use Form::{BarePair, Base, BaseIndex, Default, OffsetPair};
+use Form::{StartEnd, StartEndIndex, StartLength, StartLengthIndex};
+
+impl Form {
+    fn is_base(self) -> bool {
+        matches!(self, Base | BaseIndex)
+    }
+}
+
+/// The forms in the order of their codes, from 1.
+const RANGE_FORMS: [Form; 7] =
+    [BaseIndex, StartEndIndex, StartLengthIndex, OffsetPair, Base, StartEnd, StartLength];
+const LOCATION_FORMS: [Form; 8] =
+    [BaseIndex, StartEndIndex, StartLengthIndex, OffsetPair, Default, Base, StartEnd, StartLength];
+
+/// Which form the entry at an index has.
+#[derive(Clone, Copy)]
+enum Pattern {
+    All(Form),
+    /// A base address, then eight offset pairs.
+    Bases,
+    /// The last three forms of a linked program, in no order.
+    Mixed,
+}
+
+impl Pattern {
+    fn form(self, index: u64) -> Form {
+        match self {
+            Pattern::All(form) => form,
+            Pattern::Bases if index % 9 == 0 => Base,
+            Pattern::Bases => OffsetPair,
+            Pattern::Mixed => {
+                [StartLength, StartEnd, StartLengthIndex][(spread(index) % 3) as usize]
+            }
+        }
+    }
+}
+
+/// Numbers without a visible order, the same in every run.
+fn spread(index: u64) -> u64 {
+    let mixed = (index + 1).wrapping_mul(0x9e37_79b9_7f4a_7c15);
+    (mixed ^ (mixed >> 29)).wrapping_mul(0xbf58_476d_1ce4_e5b9) >> 33
+}
+
+const TABLE_ENTRIES: u64 = 256;
+const TABLE_BASE: usize = 8;
+const LIST_OFFSET: usize = 12;
+/// Distance of two begins in lists of address size 4 and 8; every length is
+/// below it.
+const STEP: u64 = 0x400;
+
+/// The begin and the length of the range at an index. Below address size 4
+/// they repeat.
+fn span(index: u64, size: u8) -> (u64, u64) {
+    match size {
+        1 => (1 + index % 100, 1 + spread(index) % 100),
+        2 => (0x100 + index % 64 * 0x100, 1 + spread(index) % 0x200),
+        4 => (0x10000 + index * STEP, 1 + spread(index) % 0x200),
+        _ => (0x7f00_0000_0000 + index * STEP, 1 + spread(index) % 0x200),
+    }
+}
+
+struct Writer {
+    out: Vec<u8>,
+    kind: Kind,
+    version: u16,
+    size: u8,
+    big: bool,
+}
+
+impl Writer {
+    fn fixed(&mut self, value: u64, width: u8) {
+        let bytes = value.to_le_bytes();
+        let bytes = &bytes[..width as usize];
+        if self.big {
+            self.out.extend(bytes.iter().rev());
+        } else {
+            self.out.extend(bytes);
+        }
+    }
+
+    fn address(&mut self, value: u64) {
+        self.fixed(value, self.size);
+    }
+
+    fn uleb128(&mut self, mut value: u64) {
+        while value > 0x7f {
+            self.out.push(0x80 | value as u8);
+            value >>= 7;
+        }
+        self.out.push(value as u8);
+    }
+
+    fn code(&mut self, form: Form) {
+        let forms: &[Form] = if self.kind == Kind::Ranges { &RANGE_FORMS } else { &LOCATION_FORMS };
+        let code = 1 + forms.iter().position(|&other| other == form).expect("a form of this kind");
+        self.out.push(code as u8);
+    }
+
+    /// An expression of one to three bytes.
+    fn expression(&mut self, index: u64) {
+        let length = 1 + spread(index + 7) % 3;
+        if self.version <= 4 {
+            self.fixed(length, 2);
+        } else {
+            self.uleb128(length);
+        }
+        self.out.extend(&[0x91, 0x68, 0x06][..length as usize]);
+    }
+
+    fn numbers(&mut self, form: Form, index: u64) {
+        let (begin, length) = span(index, self.size);
+        match form {
+            BaseIndex => self.uleb128(index % TABLE_ENTRIES),
+            StartEndIndex => {
+                self.uleb128(index % 100);
+                self.uleb128(index % 100 + 1 + spread(index) % 100);
+            }
+            StartLengthIndex => {
+                self.uleb128(index % 150);
+                if self.kind == Kind::SplitLocations && self.version <= 4 {
+                    self.fixed(length, 4);
+                } else {
+                    self.uleb128(length);
+                }
+            }
+            OffsetPair => {
+                let offset = if self.size == 1 { index % 9 } else { index % 9 * 0x60 };
+                self.uleb128(offset);
+                self.uleb128(offset + length);
+            }
+            Default => {}
+            Base => self.address(begin),
+            StartEnd | BarePair => {
+                self.address(begin);
+                self.address(begin + length);
+            }
+            StartLength => {
+                self.address(begin);
+                self.uleb128(length);
+            }
+        }
+    }
+
+    fn entry(&mut self, form: Form, index: u64) {
+        if form != BarePair {
+            self.code(form);
+        }
+        self.numbers(form, index);
+        if self.kind != Kind::Ranges && !form.is_base() {
+            self.expression(index);
+        }
+    }
+
+    fn end(&mut self, bare: bool) {
+        if bare {
+            self.address(0);
+            self.address(0);
+        } else {
+            self.out.push(0);
+        }
+    }
+}
+
+/// Addresses in ascending order, after the room of a header.
+fn table(size: u8, big: bool) -> Vec<u8> {
+    let out = vec![0; TABLE_BASE];
+    let mut writer = Writer { out, kind: Kind::Ranges, version: 5, size, big };
+    for index in 0..TABLE_ENTRIES {
+        let address = match size {
+            1 => (index + 1).min(200),
+            2 => 0x100 + index * 0x80,
+            _ => span(index, size).0,
+        };
+        writer.address(address);
+    }
+    writer.out
+}
+
+/// What a row is made from.
+#[derive(Clone, Copy)]
+struct Plan {
+    kind: Kind,
+    version: u16,
+    size: u8,
+    big: bool,
+    pattern: Pattern,
+}
+
+impl Plan {
+    fn new(kind: Kind, pattern: Pattern, size: u8, big: bool) -> Plan {
+        let bare = matches!(pattern, Pattern::All(BarePair));
+        Plan { kind, version: if bare { 4 } else { 5 }, size, big, pattern }
+    }
+
+    fn bare(self) -> bool {
+        self.version <= 4 && self.kind != Kind::SplitLocations
+    }
+
+    /// The list of the ranges with these indexes.
+    fn row(self, name: String, indexes: impl Iterator<Item = u64>) -> Row {
+        let Plan { kind, version, size, big, pattern } = self;
+        let mut writer = Writer { out: vec![0; LIST_OFFSET], kind, version, size, big };
+        let (mut yields, mut entries) = (0, 0);
+        for index in indexes {
+            let form = pattern.form(index);
+            writer.entry(form, index);
+            yields += u64::from(!form.is_base());
+            entries += 1;
+        }
+        writer.end(self.bare());
+        Row {
+            name,
+            task: Task::Walk,
+            kind,
+            section: writer.out,
+            offset: LIST_OFFSET as u64,
+            table: table(size, big),
+            table_base: TABLE_BASE as u64,
+            // A bare pair's begin is an address already.
+            base_address: if self.bare() || size == 1 { 0 } else { 0x1000 },
+            version,
+            address_size: size,
+            big_endian: big,
+            yields,
+            entries,
+        }
+    }
+}
+
+fn kind_word(kind: Kind) -> &'static str {
+    match kind {
+        Kind::Ranges => "range",
+        Kind::Locations => "location",
+        Kind::SplitLocations => "split",
+    }
+}
+
+fn order_word(big: bool) -> &'static str {
+    if big { "big" } else { "little" }
+}
+
+/// Every kind of entry alone, by its code, and the mixes.
+fn patterns(kind: Kind) -> Vec<(String, Pattern)> {
+    let forms: &[Form] = if kind == Kind::Ranges { &RANGE_FORMS } else { &LOCATION_FORMS };
+    let mut patterns: Vec<_> =
+        (1..).zip(forms).map(|(code, &form)| (format!("{code}"), Pattern::All(form))).collect();
+    patterns.push(("bare".into(), Pattern::All(BarePair)));
+    patterns.push(("bases".into(), Pattern::Bases));
+    patterns.push(("mixed".into(), Pattern::Mixed));
+    patterns
+}
+
+/// Where no address is read, size and byte order play no part.
+fn without_addresses(pattern: Pattern) -> bool {
+    matches!(pattern, Pattern::All(OffsetPair | Default))
+}
+
+const ORDERS: [bool; 2] = [false, true];
+
+fn walks(rows: &mut Vec<Row>) {
+    for kind in [Kind::Ranges, Kind::Locations] {
+        for (word, pattern) in patterns(kind) {
+            for size in [1, 2, 4, 8] {
+                for big in ORDERS {
+                    if without_addresses(pattern) && (size < 4 || big) {
+                        continue;
+                    }
+                    let plan = Plan::new(kind, pattern, size, big);
+                    for count in [3, 1000] {
+                        let (kind, order) = (kind_word(kind), order_word(big));
+                        rows.push(
+                            plan.row(format!("{kind}-{word}-{size}-{order}-{count}"), 0..count),
+                        );
+                    }
+                }
+            }
+        }
+    }
+    for (word, form) in [("3", StartLengthIndex), ("7", StartEnd)] {
+        let pattern = Pattern::All(form);
+        let plan = Plan { version: 4, ..Plan::new(Kind::SplitLocations, pattern, 8, false) };
+        for count in [3, 1000] {
+            rows.push(plan.row(format!("split-4-{word}-8-little-{count}"), 0..count));
+        }
+    }
+}
+
+/// Lookups in lists whose ranges don't overlap; the place is the index of the
+/// entry that is found, or the number of entries.
+fn lookups(rows: &mut Vec<Row>) {
+    for kind in [Kind::Ranges, Kind::Locations] {
+        let code = if kind == Kind::Ranges { "7" } else { "8" };
+        for (word, form) in [(code, StartLength), ("bare", BarePair)] {
+            for big in ORDERS {
+                let plan = Plan::new(kind, Pattern::All(form), 8, big);
+                for count in [3, 1000] {
+                    let places = [
+                        ("front", 0),
+                        ("middle", count / 2),
+                        ("end", count - 1),
+                        ("absent", count),
+                    ];
+                    for (place, index) in places {
+                        let (kind, order) = (kind_word(kind), order_word(big));
+                        let name = format!("lookup-{place}-{kind}-{word}-8-{order}-{count}");
+                        let mut row = plan.row(name, 0..count);
+                        row.task = Task::Lookup(span(index, 8).0);
+                        row.entries = (index + 1).min(count);
+                        rows.push(row);
+                    }
+                }
+            }
+        }
+    }
+}
+
+/// Indexes below `count`, each once, without a visible order.
+fn shuffled(count: u64) -> Vec<u64> {
+    let mut indexes: Vec<u64> = (0..count).collect();
+    indexes.sort_by_key(|&index| spread(index));
+    indexes
+}
+
+/// Coverage and canonical list of ranges that neither overlap nor touch.
+fn sets(rows: &mut Vec<Row>) {
+    let plan = Plan::new(Kind::Ranges, Pattern::All(StartLength), 8, false);
+    for (word, task) in [("coverage", Task::Coverage), ("canonical", Task::Canonical)] {
+        for count in [1, 32, 1024] {
+            let orders = [
+                ("ascending", (0..count).collect()),
+                ("descending", (0..count).rev().collect()),
+                ("random", shuffled(count)),
+            ];
+            for (order, indexes) in orders {
+                let mut row = plan.row(format!("{word}-{order}-{count}"), indexes.into_iter());
+                row.task = task;
+                rows.push(row);
+            }
+        }
+    }
+}
+
+fn growth(rows: &mut Vec<Row>) {
+    let plans = [
+        ("range-7", Kind::Ranges, Pattern::All(StartLength)),
+        ("range-bases", Kind::Ranges, Pattern::Bases),
+        ("location-8", Kind::Locations, Pattern::All(StartLength)),
+        ("location-bare", Kind::Locations, Pattern::All(BarePair)),
+    ];
+    for (word, kind, pattern) in plans {
+        let plan = Plan::new(kind, pattern, 8, false);
+        for count in [10, 100, 1000, 10_000, 100_000] {
+            rows.push(plan.row(format!("growth-{word}-8-little-{count}"), 0..count));
+        }
+    }
+}
+
+pub fn rows() -> Vec<Row> {
+    let mut rows = Vec::new();
+    walks(&mut rows);
+    lookups(&mut rows);
+    sets(&mut rows);
+    growth(&mut rows);
+    rows
+}
