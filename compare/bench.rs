@@ -276,8 +276,8 @@ fn summary(all: &mut [Measured]) {
 }
 
 fn chosen(filter: &str) -> Vec<Row> {
-    let mut rows = bench_rows::rows();
-    rows.retain(|row| row.name.contains(filter) && sides(row).is_some());
+    let mut rows = bench_rows::rows(filter);
+    rows.retain(|row| sides(row).is_some());
     rows
 }
 

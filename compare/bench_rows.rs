@@ -312,58 +312,70 @@ fn without_addresses(pattern: Pattern) -> bool {
 
 const ORDERS: [bool; 2] = [false, true];
 
-fn walks(rows: &mut Vec<Row>) {
-    for kind in [Kind::Ranges, Kind::Locations] {
-        for (word, pattern) in patterns(kind) {
-            for size in [1, 2, 4, 8] {
-                for big in ORDERS {
-                    if without_addresses(pattern) && (size < 4 || big) {
-                        continue;
-                    }
-                    let plan = Plan::new(kind, pattern, size, big);
-                    for count in [3, 1000] {
-                        let (kind, order) = (kind_word(kind), order_word(big));
-                        rows.push(
-                            plan.row(format!("{kind}-{word}-{size}-{order}-{count}"), 0..count),
-                        );
-                    }
-                }
-            }
-        }
-    }
-    for (word, form) in [("3", StartLengthIndex), ("7", StartEnd)] {
-        let pattern = Pattern::All(form);
-        let plan = Plan { version: 4, ..Plan::new(Kind::SplitLocations, pattern, 8, false) };
-        for count in [3, 1000] {
-            rows.push(plan.row(format!("split-4-{word}-8-little-{count}"), 0..count));
+/// The rows with a word in their name; no others are made.
+struct Rows<'a> {
+    word: &'a str,
+    rows: Vec<Row>,
+}
+
+impl Rows<'_> {
+    fn add(&mut self, name: String, row: impl FnOnce(String) -> Row) {
+        if name.contains(self.word) {
+            self.rows.push(row(name));
         }
     }
 }
 
-/// Lookups in lists whose ranges don't overlap; the place is the index of the
-/// entry that is found, or the number of entries.
-fn lookups(rows: &mut Vec<Row>) {
+/// A short and a long walk.
+fn walk(rows: &mut Rows<'_>, word: &str, plan: Plan) {
+    let (kind, size, order) = (kind_word(plan.kind), plan.size, order_word(plan.big));
+    for count in [3, 1000] {
+        let name = format!("{kind}-{word}-{size}-{order}-{count}");
+        rows.add(name, |name| plan.row(name, 0..count));
+    }
+}
+
+fn walks(rows: &mut Rows<'_>) {
+    for kind in [Kind::Ranges, Kind::Locations] {
+        for (word, pattern) in patterns(kind) {
+            let sizes: &[u8] = if without_addresses(pattern) { &[4, 8] } else { &[1, 2, 4, 8] };
+            let orders: &[bool] = if without_addresses(pattern) { &[false] } else { &ORDERS };
+            for &size in sizes {
+                orders.iter().for_each(|&big| {
+                    walk(rows, &word, Plan::new(kind, pattern, size, big));
+                });
+            }
+        }
+    }
+    for (word, form) in [("4-3", StartLengthIndex), ("4-7", StartEnd)] {
+        let plan = Plan::new(Kind::SplitLocations, Pattern::All(form), 8, false);
+        walk(rows, word, Plan { version: 4, ..plan });
+    }
+}
+
+/// Lookups at the front, in the middle, at the end, and in vain. The list's
+/// ranges don't overlap.
+fn lookup(rows: &mut Rows<'_>, word: &str, plan: Plan, count: u64) {
+    let (kind, size, order) = (kind_word(plan.kind), plan.size, order_word(plan.big));
+    let places = [("front", 0), ("middle", count / 2), ("end", count - 1), ("absent", count)];
+    for (place, index) in places {
+        let name = format!("lookup-{place}-{kind}-{word}-{size}-{order}-{count}");
+        rows.add(name, |name| Row {
+            task: Task::Lookup(span(index, size).0),
+            entries: (index + 1).min(count),
+            ..plan.row(name, 0..count)
+        });
+    }
+}
+
+fn lookups(rows: &mut Rows<'_>) {
     for kind in [Kind::Ranges, Kind::Locations] {
         let code = if kind == Kind::Ranges { "7" } else { "8" };
         for (word, form) in [(code, StartLength), ("bare", BarePair)] {
             for big in ORDERS {
                 let plan = Plan::new(kind, Pattern::All(form), 8, big);
-                for count in [3, 1000] {
-                    let places = [
-                        ("front", 0),
-                        ("middle", count / 2),
-                        ("end", count - 1),
-                        ("absent", count),
-                    ];
-                    for (place, index) in places {
-                        let (kind, order) = (kind_word(kind), order_word(big));
-                        let name = format!("lookup-{place}-{kind}-{word}-8-{order}-{count}");
-                        let mut row = plan.row(name, 0..count);
-                        row.task = Task::Lookup(span(index, 8).0);
-                        row.entries = (index + 1).min(count);
-                        rows.push(row);
-                    }
-                }
+                lookup(rows, word, plan, 3);
+                lookup(rows, word, plan, 1000);
             }
         }
     }
@@ -377,25 +389,24 @@ fn shuffled(count: u64) -> Vec<u64> {
 }
 
 /// Coverage and canonical list of ranges that neither overlap nor touch.
-fn sets(rows: &mut Vec<Row>) {
+fn sets(rows: &mut Rows<'_>) {
     let plan = Plan::new(Kind::Ranges, Pattern::All(StartLength), 8, false);
     for (word, task) in [("coverage", Task::Coverage), ("canonical", Task::Canonical)] {
         for count in [1, 32, 1024] {
             let orders = [
-                ("ascending", (0..count).collect()),
+                ("ascending", (0..count).collect::<Vec<_>>()),
                 ("descending", (0..count).rev().collect()),
                 ("random", shuffled(count)),
             ];
             for (order, indexes) in orders {
-                let mut row = plan.row(format!("{word}-{order}-{count}"), indexes.into_iter());
-                row.task = task;
-                rows.push(row);
+                let name = format!("{word}-{order}-{count}");
+                rows.add(name, |name| Row { task, ..plan.row(name, indexes.into_iter()) });
             }
         }
     }
 }
 
-fn growth(rows: &mut Vec<Row>) {
+fn growth(rows: &mut Rows<'_>) {
     let plans = [
         ("range-7", Kind::Ranges, Pattern::All(StartLength)),
         ("range-bases", Kind::Ranges, Pattern::Bases),
@@ -405,16 +416,18 @@ fn growth(rows: &mut Vec<Row>) {
     for (word, kind, pattern) in plans {
         let plan = Plan::new(kind, pattern, 8, false);
         for count in [10, 100, 1000, 10_000, 100_000] {
-            rows.push(plan.row(format!("growth-{word}-8-little-{count}"), 0..count));
+            let name = format!("growth-{word}-8-little-{count}");
+            rows.add(name, |name| plan.row(name, 0..count));
         }
     }
 }
 
-pub fn rows() -> Vec<Row> {
-    let mut rows = Vec::new();
+/// The rows with the word in their name.
+pub fn rows(word: &str) -> Vec<Row> {
+    let mut rows = Rows { word, rows: Vec::new() };
     walks(&mut rows);
     lookups(&mut rows);
     sets(&mut rows);
     growth(&mut rows);
-    rows
+    rows.rows
 }
