@@ -275,15 +275,22 @@ fn summary(all: &mut [Measured]) {
     all.iter().take(10).for_each(print);
 }
 
-fn chosen(filter: &str) -> Vec<Row> {
-    let mut rows = bench_rows::rows(filter);
+fn fail(message: &str) -> ! {
+    eprintln!("bench: {message}");
+    std::process::exit(2)
+}
+
+fn chosen(wanted: impl Fn(&str) -> bool) -> Vec<Row> {
+    let mut rows = bench_rows::rows(&wanted);
     rows.retain(|row| sides(row).is_some());
+    if rows.is_empty() {
+        fail("no row has such a name");
+    }
     rows
 }
 
 fn table(filter: &str, settings: &Settings) {
-    let rows = chosen(filter);
-    assert!(!rows.is_empty(), "no row has {filter} in its name");
+    let rows = chosen(|name| name.contains(filter));
     println!("{} rounds of port, one, several", settings.rounds);
     header();
     let mut all = Vec::new();
@@ -298,10 +305,12 @@ fn table(filter: &str, settings: &Settings) {
     summary(&mut all);
 }
 
-fn count(side: &str, name: &str, passes: u64) {
-    let side = SIDES.iter().position(|&word| word == side).expect("port, one or several");
-    let rows = chosen(name);
-    let row = rows.iter().find(|row| row.name == name).expect("a row of this name");
+fn count(side: &str, wanted: &str, passes: &str) {
+    let Some(side) = SIDES.iter().position(|&word| word == side) else {
+        fail("a side is port, one or several");
+    };
+    let Ok(passes) = passes.parse::<u64>() else { fail("not a number of passes") };
+    let row = &chosen(|name| name == wanted)[0];
     let mut runs = sides(row).expect("chosen");
     black_box(runs[side](passes));
     println!("{} entries", passes * row.entries);
@@ -316,7 +325,7 @@ pub extern "C" fn bench_mark(section: u64) {
 /// One line for each pair of marks: row, side, and how many entries are read
 /// between them.
 fn marked(filter: &str) {
-    for row in &chosen(filter) {
+    for row in &chosen(|name| name.contains(filter)) {
         let passes = 1 + 2000 / row.entries;
         let mut runs = sides(row).expect("chosen");
         for (side, run) in SIDES.iter().zip(&mut runs) {
@@ -329,6 +338,10 @@ fn marked(filter: &str) {
     }
 }
 
+fn names(filter: &str) {
+    chosen(|name| name.contains(filter)).iter().for_each(|row| println!("{}", row.name));
+}
+
 fn main() {
     let arguments: Vec<String> = std::env::args().skip(1).collect();
     let words: Vec<&str> = arguments.iter().map(String::as_str).collect();
@@ -338,12 +351,12 @@ fn main() {
         [] => table("", &full),
         ["--quick"] => table("", &quick),
         ["--quick", filter] | [filter, "--quick"] => table(filter, &quick),
-        ["--names"] => chosen("").iter().for_each(|row| println!("{}", row.name)),
-        ["--names", filter] => chosen(filter).iter().for_each(|row| println!("{}", row.name)),
-        ["--count", side, row, passes] => count(side, row, passes.parse().expect("a number")),
+        ["--names"] => names(""),
+        ["--names", filter] => names(filter),
+        ["--count", side, row, passes] => count(side, row, passes),
         ["--marked"] => marked(""),
         ["--marked", filter] => marked(filter),
         [filter] if !filter.starts_with('-') => table(filter, &full),
-        _ => panic!("usage: bench [--quick] [filter]"),
+        _ => fail("bench [--quick] [filter] | --names [filter] | --count side row passes"),
     }
 }

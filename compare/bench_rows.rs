@@ -312,15 +312,15 @@ fn without_addresses(pattern: Pattern) -> bool {
 
 const ORDERS: [bool; 2] = [false, true];
 
-/// The rows with a word in their name; no others are made.
+/// The rows whose names are wanted; no others are made.
 struct Rows<'a> {
-    word: &'a str,
+    wanted: &'a dyn Fn(&str) -> bool,
     rows: Vec<Row>,
 }
 
 impl Rows<'_> {
     fn add(&mut self, name: String, row: impl FnOnce(String) -> Row) {
-        if name.contains(self.word) {
+        if (self.wanted)(&name) {
             self.rows.push(row(name));
         }
     }
@@ -422,9 +422,8 @@ fn growth(rows: &mut Rows<'_>) {
     }
 }
 
-/// The rows with the word in their name.
-pub fn rows(word: &str) -> Vec<Row> {
-    let mut rows = Rows { word, rows: Vec::new() };
+pub fn rows(wanted: &dyn Fn(&str) -> bool) -> Vec<Row> {
+    let mut rows = Rows { wanted, rows: Vec::new() };
     walks(&mut rows);
     lookups(&mut rows);
     sets(&mut rows);
