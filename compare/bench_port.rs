@@ -1,5 +1,6 @@
 //! The port's side: one call of the C interface for each entry, with the walk
-//! in the words, or one for the whole task.
+//! in the words, or one for the whole task. A walk is a function of its own, so
+//! that its loop is nothing but the call.
 
 use crate::bench_rows::{Kind, Row};
 use std::hint::black_box;
@@ -64,7 +65,7 @@ pub fn walk_ranges(row: &Row, passes: u64) -> u64 {
     repeat!(passes, walk_ranges_once(black_box(row)))
 }
 
-#[inline(always)]
+#[inline(never)]
 fn walk_ranges_once(row: &Row) -> u64 {
     let (s, n, t, m) = lent(row);
     let (size, version, big) = (row.address_size, row.version, row.big_endian);
@@ -90,7 +91,7 @@ pub fn walk_locations(row: &Row, passes: u64) -> u64 {
     repeat!(passes, walk_locations_once(black_box(row)))
 }
 
-#[inline(always)]
+#[inline(never)]
 fn walk_locations_once(row: &Row) -> u64 {
     let (s, n, t, m) = lent(row);
     let (size, version, big) = (row.address_size, row.version, row.big_endian);
