@@ -3,3 +3,4 @@ pub mod KindLaws
 pub mod EntryTook
 pub mod StepLaws
 pub mod EntryValues
+pub mod HeadLaws

@@ -1,3 +1,4 @@
 pub mod Forms
 pub mod Kinds
 pub mod Told
+pub mod Heads

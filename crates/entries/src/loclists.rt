@@ -1,4 +1,5 @@
 // Location list entries (DWARF 5, 2.6.2 and 7.7.3; DWARF 4, 2.6.2; GNU split lists up to version 4).
+use super::Expression;
 use super::LocStep;
 use super::RawLocListEntry;
 use super::operands::Data;
@@ -8,23 +9,32 @@ use bytes::common::Encoding;
 use bytes::endianity::RunTimeEndian;
 use bytes::error::Error;
 ghost use mathlib.Core.Path.{_≡_};
-ghost use mathlib.Core.List.{[], _∷_};
-ghost use Prim.Native.Nat.{_+_, _<_, _^_};
+ghost use Prim.Native.Nat.{ℕ, _+_, _<_, _^_};
 ghost use lib.ListN.{length};
 ghost use Rattle.bytes.specs.Read.{got};
 ghost use Rattle.bytes.specs.Error.{told};
 ghost use Rattle.entries.specs.Told.{stepOf, toldLocation, toldData, handed};
-ghost use Rattle.entries.specs.Forms.{stop, index, number, span, address, expression, operands};
-ghost use Rattle.entries.specs.Kinds.{hasKinds, codedLocation, bareLocation, locationEntry, rawLocation};
-ghost use Rattle.entries.specs.declared.RawLocListEntry.the-variants as loc;
+ghost use Rattle.entries.specs.Forms.{stop};
+ghost use Rattle.entries.specs.Kinds.{hasKinds, codedLocation, bareLocation, locationEntry, moved, rawLocation};
+ghost use Rattle.entries.specs.Heads.{firstOperand, secondOperand, locatedAs, headed, refusedHead};
+
+// What stands before an entry's expression, with the place after it: a code with two numbers, 0 for a bare pair and 5
+// without numbers; a base address, an end or a refusal, which no expression follows.
+enum Head {
+    Bounds(u64, u64, u64, usize),
+    BaseAddress(u64, usize),
+    BaseAddressx(u64, usize),
+    End,
+    Refused(Error),
+}
 
 // A refusal of an operand passed on.
-fn passed(r: Num) -> LocStep
-    ensures { λ q. ⌜ toldLocation q ≡ stepOf (handed (got stop 0) (told r)) ⌝ }
+fn passed(r: Num) -> Head
+    ensures { λ q. ⌜ q ≡ refusedHead r ⌝ }
 {
     match r {
-        Num::Got(_, _) => LocStep::End,
-        Num::Refused(e) => LocStep::Refused(e),
+        Num::Got(_, _) => Head::End,
+        Num::Refused(e) => Head::Refused(e),
     }
 }
 
@@ -37,185 +47,73 @@ fn passed_data(r: Data) -> LocStep
     }
 }
 
-fn startx_endx(
-    part: &[u8],
-    at: usize,
-    start: usize,
-    encoding: Encoding,
-    endian: RunTimeEndian,
-) -> LocStep
-    requires { ⌜ start + length (now part) < 2 ^ 64 ⌝ }
-    ensures { λ r. ⌜ toldLocation r ≡ stepOf (operands encoding endian start (now (part .entry)) (index ∷ index ∷ expression ∷ []) loc.StartxEndx at) ⌝ }
+// The first operand of kinds 1 to 4 and 6 to 8.
+fn first_operand(part: &[u8], at: usize, code: u64, size: u8, endian: RunTimeEndian) -> Num
+    ensures { λ r. ⌜ told r ≡ firstOperand code size endian (now (part .entry)) at ⌝ }
 {
-    let r1 = bytes::leb128::unsigned(part, at);
-    let Num::Got(begin, c1) = r1 else {
-        return passed(r1);
-    };
-    let r2 = bytes::leb128::unsigned(part, c1);
-    let Num::Got(end, c2) = r2 else {
-        return passed(r2);
-    };
-    let r3 = super::operands::read_expression(part, c2, start, encoding, endian);
-    let Data::Got(data, c3) = r3 else {
-        return passed_data(r3);
-    };
-    LocStep::Entry(
-        RawLocListEntry::StartxEndx(DebugAddrIndex(begin), DebugAddrIndex(end), data),
-        c3,
-    )
+    if code < 5 {
+        return bytes::leb128::unsigned(part, at);
+    }
+    bytes::reader::read_address(part, at, size, endian)
 }
 
-fn startx_length(
+// The second operand of kinds 2 to 4, 7 and 8.
+fn second_operand(
     part: &[u8],
     at: usize,
-    start: usize,
+    code: u64,
     encoding: Encoding,
     endian: RunTimeEndian,
-) -> LocStep
-    requires { ⌜ start + length (now part) < 2 ^ 64 ⌝ }
-    ensures { λ r. ⌜ toldLocation r ≡ stepOf (operands encoding endian start (now (part .entry)) (index ∷ span ∷ expression ∷ []) loc.StartxLength at) ⌝ }
+) -> Num
+    ensures { λ r. ⌜ told r ≡ secondOperand code encoding endian (now (part .entry)) at ⌝ }
 {
-    let r1 = bytes::leb128::unsigned(part, at);
-    let Num::Got(begin, c1) = r1 else {
-        return passed(r1);
-    };
-    let r2 = super::operands::read_length(part, c1, encoding, endian);
-    let Num::Got(len, c2) = r2 else {
-        return passed(r2);
-    };
-    let r3 = super::operands::read_expression(part, c2, start, encoding, endian);
-    let Data::Got(data, c3) = r3 else {
-        return passed_data(r3);
-    };
-    LocStep::Entry(
-        RawLocListEntry::StartxLength(DebugAddrIndex(begin), len, data),
-        c3,
-    )
+    if code == 7 {
+        return bytes::reader::read_address(part, at, encoding.address_size, endian);
+    }
+    if code == 3 {
+        return super::operands::read_length(part, at, encoding, endian);
+    }
+    bytes::leb128::unsigned(part, at)
 }
 
-fn offset_pair(
-    part: &[u8],
-    at: usize,
-    start: usize,
-    encoding: Encoding,
-    endian: RunTimeEndian,
-) -> LocStep
-    requires { ⌜ start + length (now part) < 2 ^ 64 ⌝ }
-    ensures { λ r. ⌜ toldLocation r ≡ stepOf (operands encoding endian start (now (part .entry)) (number ∷ number ∷ expression ∷ []) loc.OffsetPair at) ⌝ }
-{
-    let r1 = bytes::leb128::unsigned(part, at);
-    let Num::Got(begin, c1) = r1 else {
-        return passed(r1);
-    };
-    let r2 = bytes::leb128::unsigned(part, c1);
-    let Num::Got(end, c2) = r2 else {
-        return passed(r2);
-    };
-    let r3 = super::operands::read_expression(part, c2, start, encoding, endian);
-    let Data::Got(data, c3) = r3 else {
-        return passed_data(r3);
-    };
-    LocStep::Entry(RawLocListEntry::OffsetPair(begin, end, data), c3)
-}
-
-fn start_end(
-    part: &[u8],
-    at: usize,
-    start: usize,
-    encoding: Encoding,
-    endian: RunTimeEndian,
-) -> LocStep
-    requires { ⌜ start + length (now part) < 2 ^ 64 ⌝ }
-    ensures { λ r. ⌜ toldLocation r ≡ stepOf (operands encoding endian start (now (part .entry)) (address ∷ address ∷ expression ∷ []) loc.StartEnd at) ⌝ }
-{
-    let size = encoding.address_size;
-    let r1 = bytes::reader::read_address(part, at, size, endian);
-    let Num::Got(begin, c1) = r1 else {
-        return passed(r1);
-    };
-    let r2 = bytes::reader::read_address(part, c1, size, endian);
-    let Num::Got(end, c2) = r2 else {
-        return passed(r2);
-    };
-    let r3 = super::operands::read_expression(part, c2, start, encoding, endian);
-    let Data::Got(data, c3) = r3 else {
-        return passed_data(r3);
-    };
-    LocStep::Entry(RawLocListEntry::StartEnd(begin, end, data), c3)
-}
-
-fn start_length(
-    part: &[u8],
-    at: usize,
-    start: usize,
-    encoding: Encoding,
-    endian: RunTimeEndian,
-) -> LocStep
-    requires { ⌜ start + length (now part) < 2 ^ 64 ⌝ }
-    ensures { λ r. ⌜ toldLocation r ≡ stepOf (operands encoding endian start (now (part .entry)) (address ∷ number ∷ expression ∷ []) loc.StartLength at) ⌝ }
-{
-    let size = encoding.address_size;
-    let r1 = bytes::reader::read_address(part, at, size, endian);
-    let Num::Got(begin, c1) = r1 else {
-        return passed(r1);
-    };
-    let r2 = bytes::leb128::unsigned(part, c1);
-    let Num::Got(len, c2) = r2 else {
-        return passed(r2);
-    };
-    let r3 = super::operands::read_expression(part, c2, start, encoding, endian);
-    let Data::Got(data, c3) = r3 else {
-        return passed_data(r3);
-    };
-    LocStep::Entry(RawLocListEntry::StartLength(begin, len, data), c3)
-}
-
-// An entry by its kind.
-fn coded_location(part: &[u8], start: usize, encoding: Encoding, endian: RunTimeEndian) -> LocStep
-    requires { ⌜ start + length (now part) < 2 ^ 64 ⌝ }
-    ensures { λ r. ⌜ toldLocation r ≡ stepOf (codedLocation encoding endian start (now (part .entry))) ⌝ }
+// The head of an entry by its kind.
+fn coded_head(part: &[u8], encoding: Encoding, endian: RunTimeEndian) -> Head
+    ensures { λ r. ⌜ ((start : ℕ) → stepOf (headed encoding endian start (now (part .entry)) r) ≡ stepOf (codedLocation encoding endian start (now (part .entry)))) ⌝ }
 {
     let size = encoding.address_size;
     let r = bytes::reader::read_u8(part, 0);
     let Num::Got(code, c) = r else {
         return passed(r);
     };
-    match code {
-        0 => LocStep::End,
-        1 => {
-            let r1 = bytes::leb128::unsigned(part, c);
-            let Num::Got(addr, c1) = r1 else {
-                return passed(r1);
-            };
-            LocStep::Entry(RawLocListEntry::BaseAddressx(DebugAddrIndex(addr)), c1)
-        }
-        2 => startx_endx(part, c, start, encoding, endian),
-        3 => startx_length(part, c, start, encoding, endian),
-        4 => offset_pair(part, c, start, encoding, endian),
-        5 => {
-            let r1 = super::operands::read_expression(part, c, start, encoding, endian);
-            let Data::Got(data, c1) = r1 else {
-                return passed_data(r1);
-            };
-            LocStep::Entry(RawLocListEntry::DefaultLocation(data), c1)
-        }
-        6 => {
-            let r1 = bytes::reader::read_address(part, c, size, endian);
-            let Num::Got(addr, c1) = r1 else {
-                return passed(r1);
-            };
-            LocStep::Entry(RawLocListEntry::BaseAddress(addr), c1)
-        }
-        7 => start_end(part, c, start, encoding, endian),
-        8 => start_length(part, c, start, encoding, endian),
-        _ => LocStep::Refused(Error::UnknownLocListsEntry(code)),
+    if code == 0 {
+        return Head::End;
     }
+    if 8 < code {
+        return Head::Refused(Error::UnknownLocListsEntry(code));
+    }
+    if code == 5 {
+        return Head::Bounds(5, 0, 0, c);
+    }
+    let r1 = first_operand(part, c, code, size, endian);
+    let Num::Got(a, c1) = r1 else {
+        return passed(r1);
+    };
+    if code == 1 {
+        return Head::BaseAddressx(a, c1);
+    }
+    if code == 6 {
+        return Head::BaseAddress(a, c1);
+    }
+    let r2 = second_operand(part, c1, code, encoding, endian);
+    let Num::Got(b, c2) = r2 else {
+        return passed(r2);
+    };
+    Head::Bounds(code, a, b, c2)
 }
 
 // A bare pair: both zero end the list, a begin with all bits set makes the end the base address.
-fn bare_location(part: &[u8], start: usize, encoding: Encoding, endian: RunTimeEndian) -> LocStep
-    requires { ⌜ start + length (now part) < 2 ^ 64 ⌝ }
-    ensures { λ r. ⌜ toldLocation r ≡ stepOf (bareLocation encoding endian start (now (part .entry))) ⌝ }
+fn bare_head(part: &[u8], encoding: Encoding, endian: RunTimeEndian) -> Head
+    ensures { λ r. ⌜ ((start : ℕ) → stepOf (headed encoding endian start (now (part .entry)) r) ≡ stepOf (bareLocation encoding endian start (now (part .entry)))) ⌝ }
 {
     let size = encoding.address_size;
     let r = bytes::reader::read_address(part, 0, size, endian);
@@ -227,16 +125,12 @@ fn bare_location(part: &[u8], start: usize, encoding: Encoding, endian: RunTimeE
         return passed(r1);
     };
     if super::operands::is_end(begin, end) {
-        return LocStep::End;
+        return Head::End;
     }
     if begin == bytes::address::ones_sized(size) {
-        return LocStep::Entry(RawLocListEntry::BaseAddress(end), c1);
+        return Head::BaseAddress(end, c1);
     }
-    let r2 = super::operands::read_expression(part, c1, start, encoding, endian);
-    let Data::Got(data, c2) = r2 else {
-        return passed_data(r2);
-    };
-    LocStep::Entry(RawLocListEntry::AddressOrOffsetPair(begin, end, data), c2)
+    Head::Bounds(0, begin, end, c1)
 }
 
 // Whether entries have kinds: in split lists always, else from version 5 on.
@@ -249,7 +143,32 @@ fn has_kinds(split: bool, version: u16) -> bool
     5 <= version
 }
 
-// The entry at the front of a part that starts at a place of its section.
+fn entry_head(part: &[u8], encoding: Encoding, endian: RunTimeEndian, split: bool) -> Head
+    ensures { λ r. ⌜ ((start : ℕ) → stepOf (headed encoding endian start (now (part .entry)) r) ≡ stepOf (locationEntry split encoding endian start (now (part .entry)))) ⌝ }
+{
+    if has_kinds(split, encoding.version) {
+        return coded_head(part, encoding, endian);
+    }
+    bare_head(part, encoding, endian)
+}
+
+// The entry of a head and the expression after it.
+fn located(code: u64, a: u64, b: u64, expression: Expression) -> RawLocListEntry
+    ensures { λ r. ⌜ r ≡ locatedAs code a b expression ⌝ }
+{
+    match code {
+        0 => RawLocListEntry::AddressOrOffsetPair(a, b, expression),
+        2 => RawLocListEntry::StartxEndx(DebugAddrIndex(a), DebugAddrIndex(b), expression),
+        3 => RawLocListEntry::StartxLength(DebugAddrIndex(a), b, expression),
+        4 => RawLocListEntry::OffsetPair(a, b, expression),
+        5 => RawLocListEntry::DefaultLocation(expression),
+        7 => RawLocListEntry::StartEnd(a, b, expression),
+        _ => RawLocListEntry::StartLength(a, b, expression),
+    }
+}
+
+// The entry at the front of a part that starts at a place of its section; the place after it is counted in the section.
+// The expression is read at this one place of the code, whatever the head, so that the reading is compiled into it.
 fn location_entry(
     part: &[u8],
     start: usize,
@@ -258,12 +177,26 @@ fn location_entry(
     split: bool,
 ) -> LocStep
     requires { ⌜ start + length (now part) < 2 ^ 64 ⌝ }
-    ensures { λ r. ⌜ toldLocation r ≡ stepOf (locationEntry split encoding endian start (now (part .entry))) ⌝ }
+    ensures { λ r. ⌜ toldLocation r ≡ stepOf (moved start (locationEntry split encoding endian start (now (part .entry)))) ⌝ }
 {
-    if has_kinds(split, encoding.version) {
-        return coded_location(part, start, encoding, endian);
+    match entry_head(part, encoding, endian, split) {
+        Head::End => LocStep::End,
+        Head::Refused(e) => LocStep::Refused(e),
+        Head::BaseAddress(addr, c) => LocStep::Entry(RawLocListEntry::BaseAddress(addr), start + c),
+        Head::BaseAddressx(addr, c) => {
+            LocStep::Entry(
+                RawLocListEntry::BaseAddressx(DebugAddrIndex(addr)),
+                start + c,
+            )
+        }
+        Head::Bounds(code, a, b, c) => {
+            let r = super::operands::read_expression(part, c, start, encoding, endian);
+            let Data::Got(expression, c1) = r else {
+                return passed_data(r);
+            };
+            LocStep::Entry(located(code, a, b, expression), start + c1)
+        }
     }
-    bare_location(part, start, encoding, endian)
 }
 
 // The raw entry at a place of a location list; at or past the section's end, the end. Refused with 4 and the code, then
@@ -281,9 +214,5 @@ pub fn raw_location_entry(
     if section.len() <= at {
         return LocStep::End;
     }
-    match location_entry(&section[at..], at, encoding, endian, split) {
-        LocStep::Entry(entry, taken) => LocStep::Entry(entry, at + taken),
-        LocStep::End => LocStep::End,
-        LocStep::Refused(e) => LocStep::Refused(e),
-    }
+    location_entry(&section[at..], at, encoding, endian, split)
 }
