@@ -2,5 +2,6 @@ pub mod OperandLaws
 pub mod KindLaws
 pub mod EntryTook
 pub mod StepLaws
+pub mod MovedLaws
 pub mod EntryValues
 pub mod HeadLaws

@@ -7,11 +7,13 @@ use bytes::common::Encoding;
 use bytes::endianity::RunTimeEndian;
 use bytes::error::Error;
 ghost use mathlib.Core.Path.{_≡_};
+ghost use Prim.Native.Nat.{_+_, _<_, _^_};
+ghost use lib.ListN.{length};
 ghost use Rattle.bytes.specs.Read.{got};
 ghost use Rattle.bytes.specs.Error.{told};
 ghost use Rattle.entries.specs.Told.{stepOf, toldRange, handed};
 ghost use Rattle.entries.specs.Forms.{stop};
-ghost use Rattle.entries.specs.Kinds.{codedRange, bareRange, rangeEntry, rawRange};
+ghost use Rattle.entries.specs.Kinds.{codedRange, bareRange, rangeEntry, moved, rawRange};
 
 // A refusal of an operand passed on.
 fn passed(r: Num) -> RngStep
@@ -23,9 +25,10 @@ fn passed(r: Num) -> RngStep
     }
 }
 
-// An entry by its kind.
-fn coded_range(part: &[u8], encoding: Encoding, endian: RunTimeEndian) -> RngStep
-    ensures { λ r. ⌜ toldRange r ≡ stepOf (codedRange encoding endian (now (part .entry))) ⌝ }
+// An entry by its kind. Here and below, start is the part's place in its section, and places are answered as the section's.
+fn coded_range(part: &[u8], start: usize, encoding: Encoding, endian: RunTimeEndian) -> RngStep
+    requires { ⌜ start + length (now part) < 2 ^ 64 ⌝ }
+    ensures { λ r. ⌜ toldRange r ≡ stepOf (moved start (codedRange encoding endian (now (part .entry)))) ⌝ }
 {
     let size = encoding.address_size;
     let r = bytes::reader::read_u8(part, 0);
@@ -39,7 +42,10 @@ fn coded_range(part: &[u8], encoding: Encoding, endian: RunTimeEndian) -> RngSte
             let Num::Got(addr, c1) = r1 else {
                 return passed(r1);
             };
-            RngStep::Entry(RawRngListEntry::BaseAddressx(DebugAddrIndex(addr)), c1)
+            RngStep::Entry(
+                RawRngListEntry::BaseAddressx(DebugAddrIndex(addr)),
+                start + c1,
+            )
         }
         2 => {
             let r1 = bytes::leb128::unsigned(part, c);
@@ -52,7 +58,7 @@ fn coded_range(part: &[u8], encoding: Encoding, endian: RunTimeEndian) -> RngSte
             };
             RngStep::Entry(
                 RawRngListEntry::StartxEndx(DebugAddrIndex(begin), DebugAddrIndex(end)),
-                c2,
+                start + c2,
             )
         }
         3 => {
@@ -66,7 +72,7 @@ fn coded_range(part: &[u8], encoding: Encoding, endian: RunTimeEndian) -> RngSte
             };
             RngStep::Entry(
                 RawRngListEntry::StartxLength(DebugAddrIndex(begin), len),
-                c2,
+                start + c2,
             )
         }
         4 => {
@@ -78,14 +84,14 @@ fn coded_range(part: &[u8], encoding: Encoding, endian: RunTimeEndian) -> RngSte
             let Num::Got(end, c2) = r2 else {
                 return passed(r2);
             };
-            RngStep::Entry(RawRngListEntry::OffsetPair(begin, end), c2)
+            RngStep::Entry(RawRngListEntry::OffsetPair(begin, end), start + c2)
         }
         5 => {
             let r1 = bytes::reader::read_address(part, c, size, endian);
             let Num::Got(addr, c1) = r1 else {
                 return passed(r1);
             };
-            RngStep::Entry(RawRngListEntry::BaseAddress(addr), c1)
+            RngStep::Entry(RawRngListEntry::BaseAddress(addr), start + c1)
         }
         6 => {
             let r1 = bytes::reader::read_address(part, c, size, endian);
@@ -96,7 +102,7 @@ fn coded_range(part: &[u8], encoding: Encoding, endian: RunTimeEndian) -> RngSte
             let Num::Got(end, c2) = r2 else {
                 return passed(r2);
             };
-            RngStep::Entry(RawRngListEntry::StartEnd(begin, end), c2)
+            RngStep::Entry(RawRngListEntry::StartEnd(begin, end), start + c2)
         }
         7 => {
             let r1 = bytes::reader::read_address(part, c, size, endian);
@@ -107,15 +113,16 @@ fn coded_range(part: &[u8], encoding: Encoding, endian: RunTimeEndian) -> RngSte
             let Num::Got(len, c2) = r2 else {
                 return passed(r2);
             };
-            RngStep::Entry(RawRngListEntry::StartLength(begin, len), c2)
+            RngStep::Entry(RawRngListEntry::StartLength(begin, len), start + c2)
         }
         _ => RngStep::Refused(Error::UnknownRangeListsEntry(code)),
     }
 }
 
 // A bare pair: both zero end the list, a begin with all bits set makes the end the base address.
-fn bare_range(part: &[u8], encoding: Encoding, endian: RunTimeEndian) -> RngStep
-    ensures { λ r. ⌜ toldRange r ≡ stepOf (bareRange encoding endian (now (part .entry))) ⌝ }
+fn bare_range(part: &[u8], start: usize, encoding: Encoding, endian: RunTimeEndian) -> RngStep
+    requires { ⌜ start + length (now part) < 2 ^ 64 ⌝ }
+    ensures { λ r. ⌜ toldRange r ≡ stepOf (moved start (bareRange encoding endian (now (part .entry)))) ⌝ }
 {
     let size = encoding.address_size;
     let r = bytes::reader::read_address(part, 0, size, endian);
@@ -130,19 +137,20 @@ fn bare_range(part: &[u8], encoding: Encoding, endian: RunTimeEndian) -> RngStep
         return RngStep::End;
     }
     if begin == bytes::address::ones_sized(size) {
-        return RngStep::Entry(RawRngListEntry::BaseAddress(end), c1);
+        return RngStep::Entry(RawRngListEntry::BaseAddress(end), start + c1);
     }
-    RngStep::Entry(RawRngListEntry::AddressOrOffsetPair(begin, end), c1)
+    RngStep::Entry(RawRngListEntry::AddressOrOffsetPair(begin, end), start + c1)
 }
 
-// The entry at the front of a part: kinds from version 5 on, bare pairs before.
-fn range_entry(part: &[u8], encoding: Encoding, endian: RunTimeEndian) -> RngStep
-    ensures { λ r. ⌜ toldRange r ≡ stepOf (rangeEntry encoding endian (now (part .entry))) ⌝ }
+// The entry at the front of a part that starts at a place of its section: kinds from version 5 on, bare pairs before.
+fn range_entry(part: &[u8], start: usize, encoding: Encoding, endian: RunTimeEndian) -> RngStep
+    requires { ⌜ start + length (now part) < 2 ^ 64 ⌝ }
+    ensures { λ r. ⌜ toldRange r ≡ stepOf (moved start (rangeEntry encoding endian (now (part .entry)))) ⌝ }
 {
     if 5 <= encoding.version {
-        return coded_range(part, encoding, endian);
+        return coded_range(part, start, encoding, endian);
     }
-    bare_range(part, encoding, endian)
+    bare_range(part, start, encoding, endian)
 }
 
 // The raw entry at a place of a range list; at or past the section's end, the end. Refused with 3 and the code, then operand
@@ -158,9 +166,5 @@ pub fn raw_range_entry(
     if section.len() <= at {
         return RngStep::End;
     }
-    match range_entry(&section[at..], encoding, endian) {
-        RngStep::Entry(entry, taken) => RngStep::Entry(entry, at + taken),
-        RngStep::End => RngStep::End,
-        RngStep::Refused(e) => RngStep::Refused(e),
-    }
+    range_entry(&section[at..], at, encoding, endian)
 }

@@ -1,9 +1,11 @@
--- Both addresses are there, or a refusal is the answer, and they are told apart as in the definition. Assumes nothing.
+-- Both addresses are there, or a refusal is the answer, and they are told apart as in the definition. The second one ends in
+-- the part, so its place in the section fits. Assumes nothing.
 use mathlib.Core.Path.{sym, ap, _∙_}
+use native.Mathlib.Omega.{arith}
 use borrow.Author.Needs.{needs}
-use Rattle.entries.specs.Told.{stepOf}
 use Rattle.entries.proofs.OperandLaws.{passed-on}
 use Rattle.entries.proofs.KindLaws.{no-begin, no-end, pair-end, pair-base, pair-offsets}
+use Rattle.entries.proofs.MovedLaws.{address-within, stepFrom}
 use Rattle.entries.proofs.rnglists.bare_range.Statement.{statement}
 use Rattle.entries.proofs.rnglists.bare_range.Tie as tie
 
@@ -20,7 +22,7 @@ passed-requires : tie.Need-passed-requires
 passed-requires c κs = search needs
 
 returns : tie.Need-returns
-returns c = passed-on (c .passed .ensures) (c .before .enum-told .given .1) ∙ ap stepOf (sym (no-begin _ _ _ _ _ _ _ (c .before .before .before .read-address .ensures) (c .before .enum-told .given .1)))
+returns c = passed-on (c .passed .ensures) (c .before .enum-told .given .1) ∙ ap (stepFrom _) (sym (no-begin _ _ _ _ _ _ _ (c .before .before .before .read-address .ensures) (c .before .enum-told .given .1)))
 
 read-address-requires-2 : tie.Need-read-address-requires-2
 read-address-requires-2 c κs = search needs
@@ -36,22 +38,28 @@ passed-requires-2 c κs = search needs
 
 returns-2 : tie.Need-returns-2
 returns-2 c = passed-on (c .passed2 .ensures) (c .before .enum-told2 .given .1)
-    ∙ ap stepOf (sym (no-end _ _ _ _ _ _ _ (c .before .before .before .before .before .before .before .read-address .ensures) (c .before .before .before .before .before .r .given .1) (c .before .before .before .read-address2 .ensures) (c .before .enum-told2 .given .1)))
+    ∙ ap (stepFrom _) (sym (no-end _ _ _ _ _ _ _ (c .before .before .before .before .before .before .before .read-address .ensures) (c .before .before .before .before .before .r .given .1) (c .before .before .before .read-address2 .ensures) (c .before .enum-told2 .given .1)))
 
 is-end-requires : tie.Need-is-end-requires
 is-end-requires c κs = search needs
 
 returns-3 : tie.Need-returns-3
-returns-3 c = ap stepOf (sym (pair-end _ _ _ _ _ _ _ (c .before .before .before .before .before .before .before .before .before .read-address .ensures) (c .before .before .before .before .before .before .before .r .given .1) (c .before .before .before .before .before .read-address2 .ensures) (c .before .before .before .r1 .given .1) (sym (c .before .is-end .ensures) ∙ c .if1 .taken)))
+returns-3 c = ap (stepFrom _) (sym (pair-end _ _ _ _ _ _ _ (c .before .before .before .before .before .before .before .before .before .read-address .ensures) (c .before .before .before .before .before .before .before .r .given .1) (c .before .before .before .before .before .read-address2 .ensures) (c .before .before .before .r1 .given .1) (sym (c .before .is-end .ensures) ∙ c .if1 .taken)))
 
 ones-sized-requires : tie.Need-ones-sized-requires
 ones-sized-requires c κs = search needs
 
+add-t16 : tie.Need-add-t16
+add-t16 c = omega (arith, address-within _ _ _ _ (c .before .before .before .before .before .before .before .read-address2 .ensures) (c .before .before .before .before .before .r1 .given .1))
+
 returns-4 : tie.Need-returns-4
-returns-4 c = ap stepOf (sym (pair-base _ _ _ _ _ _ _ (c .before .before .before .before .before .before .before .before .before .before .before .read-address .ensures) (c .before .before .before .before .before .before .before .before .before .r .given .1) (c .before .before .before .before .before .before .before .read-address2 .ensures) (c .before .before .before .before .before .r1 .given .1) (sym (c .before .before .before .is-end .ensures) ∙ c .before .before .if1 .left) (c .before .ones-sized .ensures) (c .if2 .taken)))
+returns-4 c = ap (stepFrom _) (sym (pair-base _ _ _ _ _ _ _ (c .before .before .before .before .before .before .before .before .before .before .before .read-address .ensures) (c .before .before .before .before .before .before .before .before .before .r .given .1) (c .before .before .before .before .before .before .before .read-address2 .ensures) (c .before .before .before .before .before .r1 .given .1) (sym (c .before .before .before .is-end .ensures) ∙ c .before .before .if1 .left) (c .before .ones-sized .ensures) (c .if2 .taken)))
+
+add-t18 : tie.Need-add-t18
+add-t18 c = omega (arith, address-within _ _ _ _ (c .before .before .before .before .before .before .before .read-address2 .ensures) (c .before .before .before .before .before .r1 .given .1))
 
 returns-5 : tie.Need-returns-5
-returns-5 c = ap stepOf (sym (pair-offsets _ _ _ _ _ _ _ (c .before .before .before .before .before .before .before .before .before .before .before .read-address .ensures) (c .before .before .before .before .before .before .before .before .before .r .given .1) (c .before .before .before .before .before .before .before .read-address2 .ensures) (c .before .before .before .before .before .r1 .given .1) (sym (c .before .before .before .is-end .ensures) ∙ c .before .before .if1 .left) (c .before .ones-sized .ensures) (c .if2 .left)))
+returns-5 c = ap (stepFrom _) (sym (pair-offsets _ _ _ _ _ _ _ (c .before .before .before .before .before .before .before .before .before .before .before .read-address .ensures) (c .before .before .before .before .before .before .before .before .before .r .given .1) (c .before .before .before .before .before .before .before .read-address2 .ensures) (c .before .before .before .before .before .r1 .given .1) (sym (c .before .before .before .is-end .ensures) ∙ c .before .before .if1 .left) (c .before .ones-sized .ensures) (c .if2 .left)))
 
 pub bare-range-spec : {M : Type 1} → statement M
 bare-range-spec =
@@ -70,5 +78,7 @@ bare-range-spec =
     is-end-requires
     returns-3
     ones-sized-requires
+    add-t16
     returns-4
+    add-t18
     returns-5)
