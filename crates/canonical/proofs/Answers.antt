@@ -2,23 +2,24 @@
 use mathlib.Core.Path.{_≡_, sym}
 use mathlib.Core.Bool.{true, false}
 use mathlib.Core.List.{List}
-use Prim.Native.Nat.{ℕ, _≤_, _<_}
-use native.Mathlib.Omega.{arith}
+use Prim.Native.Nat.{ℕ}
 use lib.ListN.{length}
-use lib.Seq.{sets}
-use Rattle.bytes.specs.Read.{gives}
 use Rattle.bytes.specs.Error.{number, values, refusing}
-use Rattle.bytes.specs.declared.error.Error.the-variants.{NoSpace, BadSheet}
+use Rattle.bytes.specs.declared.error.Error.the-variants.{BadSheet}
 use Rattle.coverage.specs.Ranges.{limit}
 use Rattle.coverage.specs.Kept.{rangesOf, lawfulSheet}
 use Rattle.coverage.specs.Canonical.{canonicalBytes, canonicalKept}
 use Rattle.coverage.specs.Output.{output, written}
+use Rattle.coverage.specs.Told.{toldWrote}
 use Rattle.coverage.specs.declared.Coverage.{Coverage}
+use Rattle.coverage.specs.declared.Wrote.{Wrote}
+use Rattle.coverage.specs.declared.Wrote.the-variants as wrote
 use Rattle.coverage.proofs.Checked.{lawful-few, lawful-apart}
 use Rattle.coverage.proofs.OutputLaws.{written-refused, written-short}
 use Rattle.coverage.proofs.Sources.{kept-bytes}
 use Rattle.coverage.proofs.PutLaws.{all-written}
 use Rattle.canonical.specs.Arrays.{Arrays, firsts}
+use Rattle.canonical.specs.Put.{Put}
 
 pub arrays : (c : Coverage) → lawfulSheet c ≡ true
     → length (c .begins) ≡ limit → length (c .ends) ≡ limit → Arrays (c .n) (c .begins) (c .ends)
@@ -29,12 +30,9 @@ module _ (c : Coverage) (l : List ℕ) where
   unfolding canonicalKept
   canonical-refused e = rw e (sym (written-refused (number BadSheet) (values BadSheet) l))
 
-  module _ {n : ℕ} (law : lawfulSheet c ≡ true) (size : n ≡ length (canonicalBytes (firsts (c .n) (c .begins) (c .ends)))) where
-    pub canonical-short : length l < n → output (refusing NoSpace) l ≡ written (canonicalKept c) l
-    unfolding rangesOf
-    canonical-short h = rw (kept-bytes c law) (sym (written-short (canonicalBytes (firsts (c .n) (c .begins) (c .ends))) l (omega arith)))
-
-    pub canonical-written : {m : List ℕ} → n ≤ length l → m ≡ sets l 0 (canonicalBytes (firsts (c .n) (c .begins) (c .ends)))
-        → output (gives n) m ≡ written (canonicalKept c) l
-    unfolding rangesOf
-    canonical-written h q = rw (kept-bytes c law) (all-written (canonicalBytes (firsts (c .n) (c .begins) (c .ends))) l size h q)
+  pub canonical-put : {m : List ℕ} (r : Wrote) → lawfulSheet c ≡ true → Put r (canonicalBytes (firsts (c .n) (c .begins) (c .ends))) l m
+      → output (toldWrote r) m ≡ written (canonicalKept c) l
+  unfolding rangesOf
+  canonical-put (wrote.Bytes n) law p = rw (kept-bytes c law) (all-written (canonicalBytes (firsts (c .n) (c .begins) (c .ends))) l (p .0) (p .1) (p .2))
+  canonical-put (wrote.Refused e) law p =
+      rw (kept-bytes c law, p .0, p .2) (sym (written-short (canonicalBytes (firsts (c .n) (c .begins) (c .ends))) l (p .1)))

@@ -16,6 +16,7 @@ ghost use Rattle.coverage.specs.Canonical.{canonicalBytes, canonicalKept};
 ghost use Rattle.coverage.specs.Output.{output, written};
 ghost use Rattle.coverage.specs.Told.{toldWrote};
 ghost use Rattle.canonical.specs.Arrays.{Arrays, firsts};
+ghost use Rattle.canonical.specs.Put.{Put};
 
 // How many bytes the shortest unsigned LEB128 form of x has.
 fn unsigned_size(x: u64) -> usize
@@ -79,6 +80,20 @@ fn write(n: usize, begins: &[u64; LIMIT], ends: &[u64; LIMIT], out: &mut [u8])
     out[at] = 0;
 }
 
+// The canonical list of the first n ranges, and how many bytes it has; where the output is shorter, 11, and nothing is
+// written.
+fn put_list(n: usize, begins: &[u64; LIMIT], ends: &[u64; LIMIT], out: &mut [u8]) -> Wrote
+    requires { ⌜ Arrays n (now begins) (now ends) ⌝ }
+    ensures { λ r. ⌜ Put r (canonicalBytes (firsts n (now (begins .entry)) (now (ends .entry)))) (now (out .entry)) (now (out .exit)) ⌝ }
+{
+    let len = size(n, begins, ends);
+    if out.len() < len {
+        return Wrote::Refused(Error::NoSpace);
+    }
+    write(n, begins, ends, out);
+    Wrote::Bytes(len)
+}
+
 // The canonical list of a coverage, and how many bytes it has: 12 where the coverage makes no lawful sheet, then 11.
 pub fn canonical(coverage: Coverage, out: &mut [u8]) -> Wrote
     ensures { λ r. ⌜ output (toldWrote r) (now (out .exit)) ≡ written (canonicalKept coverage) (now (out .entry)) ⌝ }
@@ -89,10 +104,5 @@ pub fn canonical(coverage: Coverage, out: &mut [u8]) -> Wrote
     let n = coverage.n;
     let begins = coverage.begins;
     let ends = coverage.ends;
-    let len = size(n, &begins, &ends);
-    if out.len() < len {
-        return Wrote::Refused(Error::NoSpace);
-    }
-    write(n, &begins, &ends, out);
-    Wrote::Bytes(len)
+    put_list(n, &begins, &ends, out)
 }
