@@ -22,6 +22,14 @@ ghost use Rattle.coverage.specs.Kept.{paired, padded};
 ghost use Rattle.coverage.specs.Sheet.{addressBytes, sheetBytes, sheetKept, addressesIn, sheetRanges};
 ghost use Rattle.coverage.specs.Output.{output, written};
 ghost use Rattle.coverage.specs.Told.{toldWrote, toldMade, made};
+ghost use Rattle.sheets.specs.Judged.{Judged};
+
+// Whether a coverage has its sheet in an output.
+enum Judgement {
+    BadSheet,
+    NoSpace,
+    Fits,
+}
 
 // The first n addresses, eight bytes each, from a place on.
 fn put_addresses(out: &mut [u8], at: usize, n: usize, addresses: &[u64; LIMIT])
@@ -50,22 +58,38 @@ fn write(n: usize, begins: &[u64; LIMIT], ends: &[u64; LIMIT], out: &mut [u8])
     put_addresses(out, 4 + 8 * n, n, ends);
 }
 
+// Whether a coverage of n ranges has its sheet in so much room: 12 where it makes no lawful sheet, then 11.
+fn judge(lawful: bool, n: usize, room: usize) -> Judgement
+    ensures { λ r. ⌜ Judged lawful n room r ⌝ }
+{
+    if lawful {
+        if room < 4 {
+            return Judgement::NoSpace;
+        }
+        if (room - 4) / 16 < n {
+            return Judgement::NoSpace;
+        }
+        return Judgement::Fits;
+    }
+    Judgement::BadSheet
+}
+
 // The sheet of a coverage, and how many bytes it has: 12 where the coverage makes no lawful sheet, then 11.
 pub fn sheet(coverage: Coverage, out: &mut [u8]) -> Wrote
     ensures { λ r. ⌜ output (toldWrote r) (now (out .exit)) ≡ written (sheetKept coverage) (now (out .entry)) ⌝ }
 {
-    if !is_lawful(coverage) {
-        return Wrote::Refused(Error::BadSheet);
-    }
     let n = coverage.n;
-    let len = 4 + 16 * n;
-    if out.len() < len {
-        return Wrote::Refused(Error::NoSpace);
+    match judge(is_lawful(coverage), n, out.len()) {
+        Judgement::BadSheet => Wrote::Refused(Error::BadSheet),
+        Judgement::NoSpace => Wrote::Refused(Error::NoSpace),
+        Judgement::Fits => {
+            let begins = coverage.begins;
+            let ends = coverage.ends;
+            let len = 4 + 16 * n;
+            write(n, &begins, &ends, out);
+            Wrote::Bytes(len)
+        }
     }
-    let begins = coverage.begins;
-    let ends = coverage.ends;
-    write(n, &begins, &ends, out);
-    Wrote::Bytes(len)
 }
 
 // The number of two bytes at a place.
