@@ -1,3 +1,4 @@
 pub mod Words
 pub mod ListWords
 pub mod TableWords
+pub mod CoverageWords

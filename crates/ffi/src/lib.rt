@@ -28,8 +28,15 @@
 //   yz_table_next                         place                 place after, version, offset, length, 1 for 64-bit DWARF,
 //                                                               address size, offset and length of the addresses
 //   yz_table_entry_next                   offset, length left   offset, length left, address
+//   yz_.._coverage, yz_coverage_from_..                         count
+//   yz_sheet, yz_canonical, yz_.._canonical                     bytes written
+//
+// A coverage is a count, and begins and ends in arrays of 1,024 places. Calls that make one write both arrays whole, 0 past the
+// count; to calls that take one, what stands past the count makes no difference. A refused call leaves the arrays and the output
+// as they were. What a call writes to shares no byte with anything else that it is lent.
 //
 // A raw entry's code is its kind's in DWARF 5, 0 for a bare pair; convert_raw refuses a higher one with 3 or 4.
+pub mod coverages;
 pub mod headers;
 pub mod locations;
 pub mod ranges;
