@@ -1,0 +1,986 @@
+//! Each export through the wrapper, on good and on bad input. The expected values are DWARF's and document 01's, worked out
+//! by hand. A test has its export's name; `--list` prints the names.
+
+use std::fmt::Debug;
+use std::process::ExitCode;
+use yeltzarun::RunTimeEndian::{Big, Little};
+use yeltzarun::*;
+
+#[derive(Default)]
+struct Checks {
+    test: &'static str,
+    passed: usize,
+    failed: usize,
+}
+
+impl Checks {
+    #[track_caller]
+    fn same<T: PartialEq + Debug>(&mut self, got: T, expected: T) {
+        if got == expected {
+            self.passed += 1;
+            return;
+        }
+        self.failed += 1;
+        let line = std::panic::Location::caller().line();
+        println!("test.rs:{line}: {}: got {got:x?}, expected {expected:x?}", self.test);
+    }
+}
+
+const TESTS: &[(&str, fn(&mut Checks))] = &[
+    ("yz_uleb128", uleb128),
+    ("yz_read_u8", read_u8),
+    ("yz_read_u16", read_u16),
+    ("yz_read_u32", read_u32),
+    ("yz_read_u64", read_u64),
+    ("yz_read_address", read_address),
+    ("yz_read_address_size", read_address_size),
+    ("yz_read_offset", read_offset),
+    ("yz_initial_length", initial_length),
+    ("yz_skip", skip),
+    ("yz_split", split),
+    ("yz_truncate", truncate),
+    ("yz_wrapping_add_sized", wrapping_add_sized),
+    ("yz_min_tombstone", min_tombstone),
+    ("yz_ones_sized", ones_sized),
+    ("yz_get_address", get_address),
+    ("yz_table_next", table_next),
+    ("yz_table_entry_next", table_entry_next),
+    ("yz_lists_header", lists_header),
+    ("yz_range_get_offset", range_get_offset),
+    ("yz_range_default_base", range_default_base),
+    ("yz_location_get_offset", location_get_offset),
+    ("yz_location_default_base", location_default_base),
+    ("yz_range_open", range_open),
+    ("yz_range_next", range_next),
+    ("yz_range_next_raw", range_next_raw),
+    ("yz_range_convert_raw", range_convert_raw),
+    ("yz_range_lookup", range_lookup),
+    ("yz_location_open", location_open),
+    ("yz_location_next", location_next),
+    ("yz_location_next_raw", location_next_raw),
+    ("yz_location_convert_raw", location_convert_raw),
+    ("yz_location_lookup", location_lookup),
+    ("yz_range_coverage", range_coverage),
+    ("yz_location_coverage", location_coverage),
+    ("yz_coverage_from_canonical", coverage_from_canonical),
+    ("yz_coverage_from_sheet", coverage_from_sheet),
+    ("yz_sheet", sheet),
+    ("yz_canonical", canonical),
+    ("yz_range_canonical", range_canonical),
+    ("yz_location_canonical", location_canonical),
+];
+
+fn main() -> ExitCode {
+    if std::env::args().any(|word| word == "--list") {
+        TESTS.iter().for_each(|(name, _)| println!("{name}"));
+        return ExitCode::SUCCESS;
+    }
+    let mut checks = Checks::default();
+    for (name, test) in TESTS {
+        checks.test = name;
+        test(&mut checks);
+    }
+    errors(&mut checks);
+    println!("test.rs: {} exports, {} passed, {} failed", TESTS.len(), checks.passed, checks.failed);
+    if checks.failed == 0 { ExitCode::SUCCESS } else { ExitCode::FAILURE }
+}
+
+const EOF: Error = Error::UnexpectedEof;
+const TWO_TO_61: u64 = 1 << 61;
+
+/// Document 01's address table: its addresses begin at 8.
+const TABLE: &[u8] = &[0x0c, 0, 0, 0, 5, 0, 4, 0, 0x10, 0, 0, 0, 0x20, 0, 0, 0];
+/// The same in the other order.
+const BIG_TABLE: &[u8] = &[0, 0, 0, 0x0c, 0, 5, 4, 0, 0, 0, 0, 0x10, 0, 0, 0, 0x20];
+/// A header of lists with two offsets, 8 and 10, and two lists of one byte.
+const LISTS: &[u8] =
+    &[0x12, 0, 0, 0, 5, 0, 4, 0, 2, 0, 0, 0, 8, 0, 0, 0, 0x0a, 0, 0, 0, 0, 0];
+/// Nine bytes of a LEB128 number; the tenth decides.
+const NINE: [u8; 9] = [0x80; 9];
+
+fn encoding(version: u16, address_size: u8) -> Encoding {
+    Encoding { address_size, format: Format::Dwarf32, version }
+}
+
+fn dwarf64() -> Encoding {
+    Encoding { address_size: 8, format: Format::Dwarf64, version: 5 }
+}
+
+fn at(begin: u64, end: u64) -> Range {
+    Range { begin, end }
+}
+
+fn join(parts: &[&[u8]]) -> Vec<u8> {
+    parts.concat()
+}
+
+fn errors(c: &mut Checks) {
+    c.test = "Error";
+    let e = Error::UnknownLocListsEntry(9);
+    c.same((e.number(), e.value(), e.name()), (4, Some(9), "UnknownLocListsEntry"));
+    c.same(e.to_string(), "4 UnknownLocListsEntry 0x9".to_string());
+    c.same((EOF.number(), EOF.value(), EOF.to_string()), (1, None, "1 UnexpectedEof".to_string()));
+}
+
+// Reads
+
+/// What a read gives, and how many bytes are left after it.
+fn read<'a, T>(
+    bytes: &'a [u8],
+    endian: RunTimeEndian,
+    call: impl FnOnce(&mut EndianSlice<'a>) -> Result<T>,
+) -> (Result<T>, usize) {
+    let mut slice = EndianSlice::new(bytes, endian);
+    let got = call(&mut slice);
+    (got, slice.len())
+}
+
+fn uleb128(c: &mut Checks) {
+    let leb = |bytes: &[u8]| read(bytes, Little, |s| s.read_uleb128());
+    c.same(leb(&[0xe5, 0x8e, 0x26, 0xff]), (Ok(624485), 1));
+    c.same(leb(&[0x80, 0x00]), (Ok(0), 0));
+    c.same(leb(&join(&[&NINE, &[1]])), (Ok(1 << 63), 0));
+    c.same(leb(&join(&[&NINE, &[0]])), (Ok(0), 0));
+    c.same(leb(&join(&[&NINE, &[2]])), (Err(Error::BadUnsignedLeb128), 10));
+    c.same(leb(&NINE), (Err(EOF), 9));
+    c.same(leb(&[]), (Err(EOF), 0));
+}
+
+fn read_u8(c: &mut Checks) {
+    let mut slice = EndianSlice::new(&[0xab, 0xcd], Big);
+    c.same(slice.read_u8(), Ok(0xab));
+    c.same(slice.slice(), &[0xcd][..]);
+    c.same(slice.read_u8(), Ok(0xcd));
+    c.same(slice.read_u8(), Err(EOF));
+    c.same((slice.is_empty(), slice.endian()), (true, Big));
+}
+
+fn read_u16(c: &mut Checks) {
+    c.same(read(&[1, 2, 3], Little, |s| s.read_u16()), (Ok(0x0201), 1));
+    c.same(read(&[1, 2, 3], Big, |s| s.read_u16()), (Ok(0x0102), 1));
+    c.same(read(&[1], Little, |s| s.read_u16()), (Err(EOF), 1));
+    c.same(read(&[], Big, |s| s.read_u16()), (Err(EOF), 0));
+}
+
+fn read_u32(c: &mut Checks) {
+    c.same(read(&[1, 2, 3, 4], Little, |s| s.read_u32()), (Ok(0x0403_0201), 0));
+    c.same(read(&[1, 2, 3, 4], Big, |s| s.read_u32()), (Ok(0x0102_0304), 0));
+    c.same(read(&[1, 2, 3], Big, |s| s.read_u32()), (Err(EOF), 3));
+    c.same(read(&[], Little, |s| s.read_u32()), (Err(EOF), 0));
+}
+
+const EIGHT: &[u8] = &[1, 2, 3, 4, 5, 6, 7, 8];
+
+fn read_u64(c: &mut Checks) {
+    c.same(read(EIGHT, Little, |s| s.read_u64()), (Ok(0x0807_0605_0403_0201), 0));
+    c.same(read(EIGHT, Big, |s| s.read_u64()), (Ok(0x0102_0304_0506_0708), 0));
+    c.same(read(&EIGHT[1..], Little, |s| s.read_u64()), (Err(EOF), 7));
+    c.same(read(&[], Little, |s| s.read_u64()), (Err(EOF), 0));
+}
+
+fn read_address(c: &mut Checks) {
+    c.same(read(EIGHT, Little, |s| s.read_address(1)), (Ok(1), 7));
+    c.same(read(EIGHT, Little, |s| s.read_address(2)), (Ok(0x0201), 6));
+    c.same(read(EIGHT, Big, |s| s.read_address(4)), (Ok(0x0102_0304), 4));
+    c.same(read(EIGHT, Little, |s| s.read_address(8)), (Ok(0x0807_0605_0403_0201), 0));
+    c.same(read(&EIGHT[1..], Little, |s| s.read_address(8)), (Err(EOF), 7));
+    for size in [0, 3, 5, 9, 255] {
+        let refused = Err(Error::UnsupportedAddressSize(size.into()));
+        c.same(read(EIGHT, Little, |s| s.read_address(size)), (refused, 8));
+        c.same(read(&[], Big, |s| s.read_address(size)), (refused, 0));
+    }
+}
+
+fn read_address_size(c: &mut Checks) {
+    for size in [1, 2, 4, 8] {
+        c.same(read(&[size, 9], Little, |s| s.read_address_size()), (Ok(size), 1));
+    }
+    for size in [0, 3, 255] {
+        let refused = Err(Error::UnsupportedAddressSize(size.into()));
+        c.same(read(&[size], Little, |s| s.read_address_size()), (refused, 1));
+    }
+    c.same(read(&[], Little, |s| s.read_address_size()), (Err(EOF), 0));
+}
+
+fn read_offset(c: &mut Checks) {
+    c.same(read(EIGHT, Little, |s| s.read_offset(Format::Dwarf32)), (Ok(0x0403_0201), 4));
+    c.same(read(EIGHT, Big, |s| s.read_offset(Format::Dwarf64)), (Ok(0x0102_0304_0506_0708), 0));
+    c.same(read(&EIGHT[5..], Little, |s| s.read_offset(Format::Dwarf32)), (Err(EOF), 3));
+    c.same(read(&EIGHT[1..], Little, |s| s.read_offset(Format::Dwarf64)), (Err(EOF), 7));
+}
+
+fn initial_length(c: &mut Checks) {
+    let length = |bytes: &[u8], endian| read(bytes, endian, |s| s.read_initial_length());
+    let ones = [0xff; 4];
+    c.same(length(TABLE, Little), (Ok((12, Format::Dwarf32)), 12));
+    c.same(length(BIG_TABLE, Big), (Ok((12, Format::Dwarf32)), 12));
+    c.same(length(&[0xef, 0xff, 0xff, 0xff], Little), (Ok((0xffff_ffef, Format::Dwarf32)), 0));
+    c.same(length(&join(&[&ones, EIGHT]), Big), (Ok((0x0102_0304_0506_0708, Format::Dwarf64)), 0));
+    c.same(length(&[0xf0, 0xff, 0xff, 0xff], Little), (Err(Error::UnknownReservedLength(0xffff_fff0)), 4));
+    c.same(length(&[0xff, 0xff, 0xff, 0xfe], Big), (Err(Error::UnknownReservedLength(0xffff_fffe)), 4));
+    c.same(length(&join(&[&ones, &EIGHT[1..]]), Little), (Err(EOF), 11));
+    c.same(length(&ones[1..], Little), (Err(EOF), 3));
+    c.same(length(&[], Little), (Err(EOF), 0));
+}
+
+fn skip(c: &mut Checks) {
+    c.same(read(&[1, 2, 3], Little, |s| s.skip(2)), (Ok(()), 1));
+    c.same(read(&[1, 2, 3], Little, |s| s.skip(3)), (Ok(()), 0));
+    c.same(read(&[1, 2, 3], Little, |s| s.skip(4)), (Err(EOF), 3));
+    c.same(read(&[1, 2, 3], Little, |s| s.skip(u64::MAX)), (Err(EOF), 3));
+    c.same(read(&[], Little, |s| s.skip(0)), (Ok(()), 0));
+    let mut slice = EndianSlice::new(&[1, 2, 3], Little);
+    c.same((slice.skip(1), slice.skip(u64::MAX), slice.len()), (Ok(()), Err(EOF), 2));
+}
+
+fn split(c: &mut Checks) {
+    let part = |bytes, n| read(bytes, Little, |s| s.skip(1).and_then(|_| s.split(n)).map(|p| p.slice()));
+    c.same(part(&[1, 2, 3, 4], 2), (Ok(&[2, 3][..]), 1));
+    c.same(part(&[1, 2, 3, 4], 0), (Ok(&[][..]), 3));
+    c.same(part(&[1, 2, 3, 4], 4), (Err(EOF), 3));
+    c.same(part(&[1, 2, 3, 4], u64::MAX), (Err(EOF), 3));
+}
+
+fn truncate(c: &mut Checks) {
+    let left = |n| {
+        let mut slice = EndianSlice::new(&[1, 2, 3, 4], Little);
+        slice.skip(1).and_then(|_| slice.truncate(n)).map(|_| slice.slice())
+    };
+    c.same(left(2), Ok(&[2, 3][..]));
+    c.same(left(3), Ok(&[2, 3, 4][..]));
+    c.same(left(0), Ok(&[][..]));
+    c.same(left(4), Err(EOF));
+    c.same(left(u64::MAX), Err(EOF));
+    c.same(read(&[1, 2], Little, |s| s.truncate(3)), (Err(EOF), 2));
+}
+
+// Addresses
+
+fn wrapping_add_sized(c: &mut Checks) {
+    c.same(0xffff_ff00u64.wrapping_add_sized(0x110, 4), 0x10);
+    c.same(0xf0u64.wrapping_add_sized(0x20, 1), 0x10);
+    c.same(1u64.wrapping_add_sized(2, 2), 3);
+    c.same(u64::MAX.wrapping_add_sized(1, 8), 0);
+    c.same(u64::MAX.wrapping_add_sized(1, 0), 0);
+    c.same(5u64.wrapping_add_sized(6, 255), 11);
+}
+
+fn min_tombstone(c: &mut Checks) {
+    c.same([1, 2, 4].map(u64::min_tombstone), [0xfe, 0xfffe, 0xffff_fffe]);
+    c.same([8, 9, 255].map(u64::min_tombstone), [u64::MAX - 1; 3]);
+    c.same(u64::min_tombstone(0), 0);
+}
+
+fn ones_sized(c: &mut Checks) {
+    c.same([0, 1, 2, 3, 4].map(u64::ones_sized), [0, 0xff, 0xffff, 0xff_ffff, 0xffff_ffff]);
+    c.same([8, 9, 255].map(u64::ones_sized), [u64::MAX; 3]);
+}
+
+// Tables and headers
+
+fn get_address(c: &mut Checks) {
+    let address = |size, base, index| {
+        DebugAddr::new(TABLE, Little).get_address(size, DebugAddrBase(base), DebugAddrIndex(index))
+    };
+    c.same((address(4, 8, 0), address(4, 8, 1), address(4, 8, 2)), (Ok(0x10), Ok(0x20), Err(EOF)));
+    c.same(address(1, 0, 15), Ok(0));
+    c.same(address(8, 8, 0), Ok(0x20_0000_0010));
+    c.same(address(4, 16, 0), Err(EOF));
+    c.same(address(4, 17, TWO_TO_61 * 2), Err(EOF));
+    c.same(address(4, u64::MAX, 0), Err(EOF));
+    c.same(address(8, 0, TWO_TO_61), Err(Error::UnsupportedOffset));
+    c.same(address(8, 0, TWO_TO_61 - 1), Err(EOF));
+    c.same(address(1, 0, u64::MAX), Err(EOF));
+    c.same(address(3, 8, 0), Err(Error::UnsupportedAddressSize(3)));
+    c.same(address(3, 8, 3), Err(EOF));
+    c.same(address(0, 8, u64::MAX), Err(Error::UnsupportedAddressSize(0)));
+    let big = DebugAddr::new(BIG_TABLE, Big);
+    c.same(big.get_address(4, DebugAddrBase(8), DebugAddrIndex(1)), Ok(0x20));
+    c.same(DebugAddr::default().get_address(4, DebugAddrBase(0), DebugAddrIndex(0)), Err(EOF));
+}
+
+/// The headers of a section: offset, length, encoding and base of each, up to the second end or refusal.
+fn headers(section: &[u8]) -> Vec<Result<(u64, u64, Encoding, u64)>> {
+    let mut walk = DebugAddr::new(section, Little).headers();
+    let mut all = Vec::new();
+    loop {
+        match walk.next() {
+            Ok(Some(h)) => all.push(Ok((h.offset().0, h.length(), h.encoding(), h.base().0))),
+            Ok(None) => return all,
+            Err(e) => all.push(Err(e)),
+        }
+    }
+}
+
+fn table_next(c: &mut Checks) {
+    let wide = join(&[&[0xff; 4], &[12, 0, 0, 0, 0, 0, 0, 0, 5, 0, 8, 0], EIGHT]);
+    let first = Ok((0, 12, encoding(5, 4), 8));
+    c.same(headers(&join(&[TABLE, &wide])), vec![first, Ok((16, 12, dwarf64(), 32))]);
+    c.same(headers(&[]), vec![]);
+    c.same(headers(&join(&[TABLE, &TABLE[..15]])), vec![first, Err(EOF)]);
+    c.same(headers(&[8, 0, 0, 0, 4, 0, 4, 0, 0, 0, 0, 0]), vec![Err(Error::UnknownVersion(4))]);
+    c.same(headers(&[4, 0, 0, 0, 5, 0, 3, 0]), vec![Err(Error::UnsupportedAddressSize(3))]);
+    c.same(headers(&[4, 0, 0, 0, 5, 0, 4, 1]), vec![Err(Error::UnsupportedSegmentSize(1))]);
+    c.same(headers(&[3, 0, 0, 0, 5, 0, 4, 0]), vec![Err(EOF)]);
+    c.same(headers(&[0xf0, 0xff, 0xff, 0xff]), vec![Err(Error::UnknownReservedLength(0xffff_fff0))]);
+    let mut big = DebugAddr::new(BIG_TABLE, Big).headers();
+    c.same(big.next().map(|h| h.map(|h| h.length())), Ok(Some(12)));
+    c.same(big.next().map(|h| h.is_none()), Ok(true));
+}
+
+fn table_entry_next(c: &mut Checks) {
+    let entries = |section, endian| DebugAddr::new(section, endian).headers().next().unwrap().unwrap().entries();
+    for (section, endian) in [(TABLE, Little), (BIG_TABLE, Big)] {
+        let mut walk = entries(section, endian);
+        c.same(walk.next(), Ok(Some(0x10)));
+        c.same(walk.next(), Ok(Some(0x20)));
+        c.same(walk.next(), Ok(None));
+        c.same(walk.next(), Ok(None));
+    }
+    let mut short = entries(&[0x0a, 0, 0, 0, 5, 0, 4, 0, 0x10, 0, 0, 0, 0x20, 0, 0, 0], Little);
+    c.same(short.next(), Ok(Some(0x10)));
+    c.same(short.next(), Err(EOF));
+    c.same(short.next(), Ok(None));
+}
+
+fn lists_header(c: &mut Checks) {
+    let parse = |bytes: &[u8], endian| {
+        let mut input = EndianSlice::new(bytes, endian);
+        let header = ListsHeader::parse(&mut input);
+        (header.map(|h| (h.encoding, h.offset_entry_count, h.size())), input.slice().to_vec())
+    };
+    let kept = |bytes: &[u8], e| (Err(e), bytes.to_vec());
+    c.same(parse(&join(&[LISTS, &[9]]), Little), (Ok((encoding(5, 4), 2, 12)), LISTS[12..].to_vec()));
+    let big = [0, 0, 0, 8, 0, 5, 4, 0, 0, 0, 0, 1];
+    c.same(parse(&big, Big), (Ok((encoding(5, 4), 1, 12)), vec![]));
+    let wide = join(&[&[0xff; 4], &[9, 0, 0, 0, 0, 0, 0, 0, 5, 0, 8, 0, 3, 0, 0, 0, 0xaa]]);
+    c.same(parse(&wide, Little), (Ok((dwarf64(), 3, 20)), vec![0xaa]));
+    let bad = [8, 0, 0, 0, 4, 0, 4, 0, 0, 0, 0, 0];
+    c.same(parse(&bad, Little), kept(&bad, Error::UnknownVersion(4)));
+    let bad = [8, 0, 0, 0, 5, 0, 3, 0, 0, 0, 0, 0];
+    c.same(parse(&bad, Little), kept(&bad, Error::UnsupportedAddressSize(3)));
+    let bad = [8, 0, 0, 0, 5, 0, 4, 1, 0, 0, 0, 0];
+    c.same(parse(&bad, Little), kept(&bad, Error::UnsupportedSegmentSize(1)));
+    let bad = [0xf0, 0xff, 0xff, 0xff];
+    c.same(parse(&bad, Little), kept(&bad, Error::UnknownReservedLength(0xffff_fff0)));
+    let bad = [7, 0, 0, 0, 5, 0, 4, 0, 0, 0, 0, 0];
+    c.same(parse(&bad, Little), kept(&bad, EOF));
+    c.same(parse(&LISTS[..21], Little), kept(&LISTS[..21], EOF));
+    c.same(parse(&[], Little), kept(&[], EOF));
+}
+
+/// Eight bytes of ones after a byte: base 1 and the offset there sum to 2^64.
+const TOO_FAR: &[u8] = &[0xaa, 0xff, 0xff, 0xff, 0xff, 0xff, 0xff, 0xff, 0xff];
+
+fn range_get_offset(c: &mut Checks) {
+    let get = |section, endian, encoding, base, index| {
+        let lists = RangeLists::new(DebugRanges::default(), DebugRngLists::new(section, endian));
+        lists.get_offset(encoding, DebugRngListsBase(base), DebugRngListsIndex(index)).map(|o| o.0)
+    };
+    let five = encoding(5, 4);
+    c.same(get(LISTS, Little, five, 12, 0), Ok(20));
+    c.same(get(LISTS, Little, five, 12, 1), Ok(22));
+    c.same(get(LISTS, Little, five, 12, 2), Err(EOF));
+    c.same(get(EIGHT, Big, five, 0, 1), Ok(0x0506_0708));
+    c.same(get(EIGHT, Little, dwarf64(), 0, 0), Ok(0x0807_0605_0403_0201));
+    c.same(get(TOO_FAR, Little, dwarf64(), 0, 0), Ok(0xffff_ffff_ffff_ffaa));
+    c.same(get(TOO_FAR, Little, dwarf64(), 1, 0), Err(Error::UnsupportedOffset));
+    c.same(get(LISTS, Little, five, 0, 1 << 62), Err(Error::UnsupportedOffset));
+    c.same(get(LISTS, Little, five, u64::MAX, 0), Err(EOF));
+    c.same(get(&[], Little, five, 0, 0), Err(EOF));
+}
+
+fn location_get_offset(c: &mut Checks) {
+    let get = |section, endian, encoding, base, index| {
+        let lists = LocationLists::new(DebugLoc::default(), DebugLocLists::new(section, endian));
+        lists.get_offset(encoding, DebugLocListsBase(base), DebugLocListsIndex(index)).map(|o| o.0)
+    };
+    let five = encoding(5, 4);
+    c.same(get(LISTS, Little, five, 12, 0), Ok(20));
+    c.same(get(LISTS, Little, five, 12, 1), Ok(22));
+    c.same(get(LISTS, Little, five, 12, 2), Err(EOF));
+    c.same(get(EIGHT, Big, five, 0, 1), Ok(0x0506_0708));
+    c.same(get(TOO_FAR, Big, dwarf64(), 1, 0), Err(Error::UnsupportedOffset));
+    c.same(get(LISTS, Little, dwarf64(), 0, TWO_TO_61), Err(Error::UnsupportedOffset));
+    c.same(get(LISTS, Little, five, u64::MAX, u64::MAX), Err(EOF));
+    c.same(get(&[], Little, five, 0, 0), Err(EOF));
+}
+
+fn range_default_base(c: &mut Checks) {
+    let base = |encoding, file| DebugRngListsBase::default_for_encoding_and_file(encoding, file).0;
+    c.same(base(encoding(5, 4), DwarfFileType::Dwo), 12);
+    c.same(base(dwarf64(), DwarfFileType::Dwo), 20);
+    c.same(base(encoding(5, 4), DwarfFileType::Main), 0);
+    c.same(base(encoding(4, 4), DwarfFileType::Dwo), 0);
+}
+
+fn location_default_base(c: &mut Checks) {
+    let base = |encoding, file| DebugLocListsBase::default_for_encoding_and_file(encoding, file).0;
+    c.same(base(encoding(5, 4), DwarfFileType::Dwo), 12);
+    c.same(base(dwarf64(), DwarfFileType::Dwo), 20);
+    c.same(base(dwarf64(), DwarfFileType::Main), 0);
+    c.same(base(encoding(4, 4), DwarfFileType::Dwo), 0);
+}
+
+// Range lists
+
+/// Range lists of both sections over the same bytes.
+fn range_lists(bytes: &[u8], endian: RunTimeEndian) -> RangeLists<'_> {
+    RangeLists::new(DebugRanges::new(bytes, endian), DebugRngLists::new(bytes, endian))
+}
+
+fn open_ranges<'a>(bytes: &'a [u8], encoding: Encoding, base_address: u64) -> RngListIter<'a> {
+    let table = DebugAddr::new(TABLE, Little);
+    let lists = range_lists(bytes, Little);
+    lists.ranges(RangeListsOffset(0), encoding, base_address, &table, DebugAddrBase(8)).expect("an open list")
+}
+
+/// What a walk hands out up to its end, which stays.
+fn ranges(bytes: &[u8], encoding: Encoding, base_address: u64) -> Vec<Result<Range>> {
+    let mut walk = open_ranges(bytes, encoding, base_address);
+    let all = std::iter::from_fn(|| walk.next().transpose()).collect();
+    assert_eq!(walk.next(), Ok(None));
+    all
+}
+
+fn range_open(c: &mut Checks) {
+    let open = |bytes, version, size, offset| {
+        let lists = range_lists(bytes, Little);
+        let table = DebugAddr::default();
+        let walk = lists.ranges(RangeListsOffset(offset), encoding(version, size), 0, &table, DebugAddrBase(0));
+        walk.and_then(|mut walk| walk.next())
+    };
+    for version in [2, 4, 5, 6] {
+        c.same(open(&[], version, 4, 0), Ok(None));
+        c.same(open(&[], version, 4, 1), Err(EOF));
+        c.same(open(&[0], version, 1, 1), Ok(None));
+        c.same(open(&[], version, 8, u64::MAX), Err(EOF));
+        c.same(open(&[], version, 3, u64::MAX), Err(Error::UnsupportedAddressSize(3)));
+    }
+    let raw = range_lists(&[0], Little).raw_ranges(RangeListsOffset(2), encoding(5, 4));
+    c.same(raw.map(|_| ()), Err(EOF));
+    let apart = RangeLists::new(DebugRanges::new(&[1, 2, 0, 0], Little), DebugRngLists::default());
+    let walk = apart.ranges(RangeListsOffset(1), encoding(5, 1), 0, &DebugAddr::default(), DebugAddrBase(0));
+    c.same(walk.map(|_| ()), Err(EOF));
+    let walk = apart.ranges(RangeListsOffset(0), encoding(4, 1), 0, &DebugAddr::default(), DebugAddrBase(0));
+    c.same(walk.and_then(|mut walk| walk.next()), Ok(Some(at(1, 2))));
+    c.same((apart.debug_ranges().reader().len(), apart.debug_rnglists().reader().len()), (4, 0));
+}
+
+/// 2^61 as LEB128: times 8 it is 2^64.
+const INDEX_2_61: [u8; 9] = [0x80, 0x80, 0x80, 0x80, 0x80, 0x80, 0x80, 0x80, 0x20];
+
+fn range_next(c: &mut Checks) {
+    let five = encoding(5, 4);
+    c.same(ranges(&[0], five, 0), vec![]);
+    c.same(ranges(&[6, 0x10, 0, 0, 0, 0x20, 0, 0, 0, 0], five, 0), vec![Ok(at(0x10, 0x20))]);
+    c.same(ranges(&[6, 0x10, 0, 0, 0, 0x20, 0, 0, 0], five, 0), vec![Ok(at(0x10, 0x20))]);
+    c.same(ranges(&[4, 1, 0x82, 0, 0], five, 0x1000), vec![Ok(at(0x1001, 0x1002))]);
+    c.same(ranges(&[4, 0, 1, 0], five, 0xffff_fffd), vec![Ok(at(0xffff_fffd, 0xffff_fffe))]);
+    c.same(ranges(&[4, 0, 1, 0], five, 0xffff_fffe), vec![]);
+    c.same(ranges(&[4, 0x80, 2, 0x90, 2, 0], five, 0xffff_ff00), vec![Ok(at(0, 0x10))]);
+    c.same(ranges(&[7, 0xf0, 0x0f, 0], encoding(5, 1), 0), vec![Ok(at(0xf0, 0xff))]);
+    c.same(ranges(&[7, 0xf0, 0x20, 0], encoding(5, 1), 0), vec![]);
+    let bare = [0xff, 0xff, 0, 0x20, 1, 0, 3, 0, 0, 0, 0, 0];
+    c.same(ranges(&bare, encoding(4, 2), 0), vec![Ok(at(0x2001, 0x2003))]);
+    c.same(ranges(&[5, 5, 1, 2, 0, 0, 9, 9], encoding(4, 1), 0), vec![Ok(at(1, 2))]);
+    c.same(ranges(&[1, 2, 0, 0], encoding(2, 1), 0), vec![Ok(at(1, 2))]);
+    c.same(ranges(&[2, 0, 2, 3, 0, 8, 0], five, 0), vec![Err(EOF), Ok(at(0x10, 0x18))]);
+    c.same(ranges(&[2, 0, 1, 0], five, 0), vec![Ok(at(0x10, 0x20))]);
+    c.same(ranges(&[1, 1, 4, 0, 5, 0], five, 0), vec![Ok(at(0x20, 0x25))]);
+    c.same(ranges(&[5, 0, 0x10, 0, 0, 4, 1, 2, 0], five, 0), vec![Ok(at(0x1001, 0x1002))]);
+    let too_far = join(&[&[3], &INDEX_2_61, &[0], &[7], &[1, 0, 0, 0, 0, 0, 0, 0], &[1, 0]]);
+    let eight = encoding(5, 8);
+    c.same(ranges(&too_far, eight, 0), vec![Err(Error::UnsupportedOffset), Ok(at(1, 2))]);
+    c.same(ranges(&[8, 4, 1, 2], five, 0), vec![Err(Error::UnknownRangeListsEntry(8))]);
+    c.same(ranges(&[6, 0x10, 0], five, 0), vec![Err(EOF)]);
+    c.same(ranges(&join(&[&[4], &NINE, &[2], &[0; 9]]), five, 0), vec![Err(Error::BadUnsignedLeb128)]);
+    c.same(ranges(&[], five, 0), vec![]);
+    let big = range_lists(&[3, 1, 8, 6, 0, 0, 0, 0x10, 0, 0, 0, 0x20, 0], Big);
+    let table = DebugAddr::new(BIG_TABLE, Big);
+    let mut walk = big.ranges(RangeListsOffset(0), five, 0, &table, DebugAddrBase(8)).expect("an open list");
+    c.same((walk.next(), walk.next(), walk.next()), (Ok(Some(at(0x20, 0x28))), Ok(Some(at(0x10, 0x20))), Ok(None)));
+}
+
+/// One entry of each kind, size 1, and the end mark.
+const RANGE_KINDS: &[u8] = &[1, 9, 2, 8, 7, 3, 6, 5, 4, 4, 5, 5, 0x33, 6, 2, 3, 7, 1, 2, 0, 9];
+
+fn range_kinds() -> Vec<RawRngListEntry> {
+    use RawRngListEntry::*;
+    vec![
+        BaseAddressx { addr: DebugAddrIndex(9) },
+        StartxEndx { begin: DebugAddrIndex(8), end: DebugAddrIndex(7) },
+        StartxLength { begin: DebugAddrIndex(6), length: 5 },
+        OffsetPair { begin: 4, end: 5 },
+        BaseAddress { addr: 0x33 },
+        StartEnd { begin: 2, end: 3 },
+        StartLength { begin: 1, length: 2 },
+    ]
+}
+
+fn range_next_raw(c: &mut Checks) {
+    use RawRngListEntry::*;
+    let raw = |bytes: &[u8], encoding| {
+        let mut walk = open_ranges(bytes, encoding, 0);
+        let all: Vec<_> = std::iter::from_fn(|| walk.next_raw().transpose()).collect();
+        (all, walk.next_raw())
+    };
+    let kinds = range_kinds().into_iter().map(Ok).collect::<Vec<_>>();
+    c.same(raw(RANGE_KINDS, encoding(5, 1)), (kinds.clone(), Ok(None)));
+    let mut walk = open_ranges(RANGE_KINDS, encoding(5, 1), 0);
+    let places: Vec<u64> = (0..9).map(|_| walk.next_raw().map_or(0, |_| walk.place())).collect();
+    c.same(places, vec![2, 5, 8, 11, 13, 16, 19, 21, 21]);
+    let mut walk = range_lists(RANGE_KINDS, Little).raw_ranges(RangeListsOffset(0), encoding(5, 1)).unwrap();
+    c.same(std::iter::from_fn(|| walk.next().transpose()).collect::<Vec<_>>(), kinds);
+    let bare = [0xff, 0x20, 3, 5, 0, 0, 1, 2];
+    let pair = AddressOrOffsetPair { begin: 3, end: 5 };
+    c.same(raw(&bare, encoding(4, 1)), (vec![Ok(BaseAddress { addr: 0x20 }), Ok(pair)], Ok(None)));
+    c.same(raw(&[3, 5, 0], encoding(4, 1)), (vec![Ok(pair), Err(EOF)], Ok(None)));
+    c.same(raw(&[8, 0], encoding(5, 1)), (vec![Err(Error::UnknownRangeListsEntry(8))], Ok(None)));
+    c.same(raw(&[0xff], encoding(5, 1)), (vec![Err(Error::UnknownRangeListsEntry(0xff))], Ok(None)));
+    c.same(raw(&join(&[&[4], &NINE, &[2]]), encoding(5, 1)), (vec![Err(Error::BadUnsignedLeb128)], Ok(None)));
+    c.same(raw(&[], encoding(5, 1)), (vec![], Ok(None)));
+}
+
+fn range_convert_raw(c: &mut Checks) {
+    use RawRngListEntry::*;
+    let mut walk = open_ranges(&[4, 1, 2, 0], encoding(5, 4), 0x100);
+    let index = DebugAddrIndex;
+    c.same(walk.convert_raw(OffsetPair { begin: 1, end: 2 }), Ok(Some(at(0x101, 0x102))));
+    c.same(walk.convert_raw(OffsetPair { begin: 2, end: 2 }), Ok(None));
+    c.same(walk.convert_raw(AddressOrOffsetPair { begin: 3, end: 4 }), Ok(Some(at(0x103, 0x104))));
+    c.same(walk.convert_raw(BaseAddress { addr: 0x200 }), Ok(None));
+    c.same(walk.convert_raw(OffsetPair { begin: 1, end: 2 }), Ok(Some(at(0x201, 0x202))));
+    c.same(walk.convert_raw(BaseAddressx { addr: index(1) }), Ok(None));
+    c.same(walk.convert_raw(OffsetPair { begin: 1, end: 2 }), Ok(Some(at(0x21, 0x22))));
+    c.same(walk.convert_raw(BaseAddressx { addr: index(2) }), Err(EOF));
+    c.same(walk.convert_raw(StartxEndx { begin: index(0), end: index(1) }), Ok(Some(at(0x10, 0x20))));
+    c.same(walk.convert_raw(StartxEndx { begin: index(1), end: index(0) }), Ok(None));
+    c.same(walk.convert_raw(StartxEndx { begin: index(u64::MAX), end: index(0) }), Err(Error::UnsupportedOffset));
+    c.same(walk.convert_raw(StartxLength { begin: index(1), length: 5 }), Ok(Some(at(0x20, 0x25))));
+    c.same(walk.convert_raw(StartEnd { begin: 5, end: 7 }), Ok(Some(at(5, 7))));
+    c.same(walk.convert_raw(StartEnd { begin: 0xffff_fffe, end: u64::MAX }), Ok(None));
+    c.same(walk.convert_raw(StartLength { begin: 5, length: 7 }), Ok(Some(at(5, 12))));
+    c.same(walk.convert_raw(StartLength { begin: 5, length: u64::MAX }), Ok(None));
+    // The place has not moved, and the base is the second address.
+    c.same(walk.next(), Ok(Some(at(0x21, 0x22))));
+    c.same(walk.next(), Ok(None));
+}
+
+fn range_lookup(c: &mut Checks) {
+    let bytes = [7, 0x10, 0, 0, 0, 8, 3, 1, 8, 7, 0x12, 0, 0, 0, 1, 8];
+    let lookup = |end, size, offset, address| {
+        let (lists, table) = (range_lists(&bytes[..end], Little), DebugAddr::new(TABLE, Little));
+        let (offset, encoding) = (RangeListsOffset(offset), encoding(5, size));
+        lists.lookup(offset, encoding, 0, &table, DebugAddrBase(8), address)
+    };
+    c.same(lookup(15, 4, 0, 0x10), Ok(Some(at(0x10, 0x18))));
+    c.same(lookup(15, 4, 0, 0x17), Ok(Some(at(0x10, 0x18))));
+    c.same(lookup(16, 4, 0, 0x27), Ok(Some(at(0x20, 0x28))));
+    c.same(lookup(16, 4, 9, 0x12), Ok(Some(at(0x12, 0x13))));
+    c.same(lookup(15, 4, 0, 0x18), Ok(None));
+    c.same(lookup(15, 4, 0, u64::MAX), Ok(None));
+    c.same(lookup(16, 4, 0, 0x18), Err(Error::UnknownRangeListsEntry(8)));
+    c.same(lookup(16, 4, u64::MAX, 0x10), Err(EOF));
+    c.same(lookup(0, 4, 0, 0), Ok(None));
+    c.same(lookup(0, 4, 1, 0), Err(EOF));
+    c.same(lookup(16, 5, u64::MAX, 0), Err(Error::UnsupportedAddressSize(5)));
+    let (big, table) = (range_lists(&[3, 0, 8, 0], Big), DebugAddr::new(BIG_TABLE, Big));
+    let got = big.lookup(RangeListsOffset(0), encoding(5, 4), 0, &table, DebugAddrBase(8), 0x10);
+    c.same(got, Ok(Some(at(0x10, 0x18))));
+    let bare = range_lists(&[1, 3, 0, 0], Little);
+    let got = bare.lookup(RangeListsOffset(0), encoding(4, 1), 0x40, &table, DebugAddrBase(8), 0x42);
+    c.same(got, Ok(Some(at(0x41, 0x43))));
+}
+
+// Location lists
+
+/// Location lists of both sections over the same bytes.
+fn location_lists(bytes: &[u8], endian: RunTimeEndian) -> LocationLists<'_> {
+    LocationLists::new(DebugLoc::new(bytes, endian), DebugLocLists::new(bytes, endian))
+}
+
+fn open_locations<'a>(bytes: &'a [u8], encoding: Encoding, split: bool, base_address: u64) -> LocListIter<'a> {
+    let (lists, table) = (location_lists(bytes, Little), DebugAddr::new(TABLE, Little));
+    let (offset, base) = (LocationListsOffset(0), DebugAddrBase(8));
+    let walk = if split {
+        lists.locations_dwo(offset, encoding, base_address, &table, base)
+    } else {
+        lists.locations(offset, encoding, base_address, &table, base)
+    };
+    walk.expect("an open list")
+}
+
+/// A location's range, and its expression's bytes and offset.
+type Told<'a> = (Range, &'a [u8], usize);
+
+fn told<'a>(l: LocationListEntry<'a>) -> Told<'a> {
+    (l.range, l.data.bytes(), l.data.offset())
+}
+
+/// What a walk hands out up to its end, which stays.
+fn locations<'a>(bytes: &'a [u8], encoding: Encoding, split: bool, base: u64) -> Vec<Result<Told<'a>>> {
+    let mut walk = open_locations(bytes, encoding, split, base);
+    let all = std::iter::from_fn(|| walk.next().transpose()).map(|r| r.map(told)).collect();
+    assert_eq!(walk.next(), Ok(None));
+    all
+}
+
+fn location_open(c: &mut Checks) {
+    let open = |bytes, version, size, offset, split: bool| {
+        let (lists, table) = (location_lists(bytes, Little), DebugAddr::default());
+        let (offset, encoding, base) = (LocationListsOffset(offset), encoding(version, size), DebugAddrBase(0));
+        let walk = match split {
+            true => lists.locations_dwo(offset, encoding, 0, &table, base),
+            false => lists.locations(offset, encoding, 0, &table, base),
+        };
+        walk.and_then(|mut walk| walk.next())
+    };
+    for (version, split) in [(2, false), (4, true), (5, false), (6, true)] {
+        c.same(open(&[], version, 4, 0, split), Ok(None));
+        c.same(open(&[], version, 4, 1, split), Err(EOF));
+        c.same(open(&[0], version, 1, 1, split), Ok(None));
+        c.same(open(&[], version, 8, u64::MAX, split), Err(EOF));
+        c.same(open(&[], version, 0, u64::MAX, split), Err(Error::UnsupportedAddressSize(0)));
+    }
+    let lists = location_lists(&[0], Little);
+    c.same(lists.raw_locations(LocationListsOffset(2), encoding(5, 4)).map(|_| ()), Err(EOF));
+    c.same(lists.raw_locations_dwo(LocationListsOffset(2), encoding(4, 4)).map(|_| ()), Err(EOF));
+}
+
+fn location_next(c: &mut Checks) {
+    let (five, four) = (encoding(5, 4), encoding(4, 4));
+    let x = &[0x50][..];
+    c.same(locations(&[5, 1, 0x50, 0], five, false, 0), vec![Ok((at(0, u64::MAX), x, 2))]);
+    let gnu = [3, 0, 8, 0, 0, 0, 1, 0, 0x50, 0];
+    c.same(locations(&gnu, four, true, 0), vec![Ok((at(0x10, 0x18), x, 8))]);
+    c.same(locations(&[4, 0, 1, 1, 0, 0x50, 0], four, true, 0), vec![Ok((at(0, 1), x, 5))]);
+    c.same(locations(&[3, 0, 8, 1, 0x50, 0], five, true, 0), vec![Ok((at(0x10, 0x18), x, 4))]);
+    c.same(locations(&[3, 2, 8, 0, 3, 0, 8, 1, 0x50, 0], five, false, 0), vec![Err(EOF), Ok((at(0x10, 0x18), x, 8))]);
+    c.same(locations(&[2, 0, 1, 1, 0x50, 0], five, false, 0), vec![Ok((at(0x10, 0x20), x, 4))]);
+    c.same(locations(&[1, 1, 4, 1, 2, 1, 0x50, 0], five, false, 0), vec![Ok((at(0x21, 0x22), x, 6))]);
+    c.same(locations(&[6, 0, 1, 0, 0, 4, 1, 2, 1, 0x50, 0], five, false, 0), vec![Ok((at(0x101, 0x102), x, 9))]);
+    c.same(locations(&[7, 1, 2, 1, 0x50, 0], encoding(5, 1), false, 0), vec![Ok((at(1, 2), x, 4))]);
+    c.same(locations(&[8, 1, 2, 1, 0x50, 0], encoding(5, 1), false, 0), vec![Ok((at(1, 3), x, 4))]);
+    let bare = [0xff, 0x20, 1, 3, 2, 0, 0x50, 0x51, 0, 0, 7];
+    let two = &[0x50, 0x51][..];
+    c.same(locations(&bare, encoding(4, 1), false, 0), vec![Ok((at(0x21, 0x23), two, 6))]);
+    c.same(locations(&[4, 0, 1, 0, 0], five, false, 0), vec![Ok((at(0, 1), &[], 4))]);
+    c.same(locations(&[4, 0, 1, 2, 0x50], five, false, 0), vec![Err(EOF)]);
+    c.same(locations(&join(&[&[5], &NINE, &[1]]), five, false, 0), vec![Err(EOF)]);
+    c.same(locations(&join(&[&[5], &NINE, &[2]]), five, false, 0), vec![Err(Error::BadUnsignedLeb128)]);
+    c.same(locations(&[9, 0], five, false, 0), vec![Err(Error::UnknownLocListsEntry(9))]);
+    c.same(locations(&[0xff], four, true, 0), vec![Err(Error::UnknownLocListsEntry(0xff))]);
+    let too_far = join(&[&[3], &INDEX_2_61, &[0, 0]]);
+    c.same(locations(&too_far, encoding(5, 8), false, 0), vec![Err(Error::UnsupportedOffset)]);
+    c.same(locations(&[], five, false, 0), vec![]);
+}
+
+/// One entry of each kind, size 1, and the end mark.
+const LOCATION_KINDS: &[u8] = &[
+    1, 9, 2, 8, 7, 0, 3, 6, 5, 1, 0x50, 4, 4, 5, 0, 5, 2, 0x51, 0x52, 6, 0x33, 7, 2, 3, 0, 8, 1, 2, 0, 0, 9,
+];
+
+fn location_next_raw(c: &mut Checks) {
+    use RawLocListEntry::*;
+    let bytes_of = |raw: Result<RawLocListEntry<'static>>| {
+        raw.map(|raw| match raw {
+            AddressOrOffsetPair { begin, end, data } => (0, begin, end, data.bytes(), data.offset()),
+            BaseAddressx { addr } => (1, addr.0, 0, &[][..], 0),
+            StartxEndx { begin, end, data } => (2, begin.0, end.0, data.bytes(), data.offset()),
+            StartxLength { begin, length, data } => (3, begin.0, length, data.bytes(), data.offset()),
+            OffsetPair { begin, end, data } => (4, begin, end, data.bytes(), data.offset()),
+            DefaultLocation { data } => (5, 0, 0, data.bytes(), data.offset()),
+            BaseAddress { addr } => (6, addr, 0, &[][..], 0),
+            StartEnd { begin, end, data } => (7, begin, end, data.bytes(), data.offset()),
+            StartLength { begin, length, data } => (8, begin, length, data.bytes(), data.offset()),
+        })
+    };
+    let raw = |bytes, encoding, split| {
+        let mut walk = open_locations(bytes, encoding, split, 0);
+        let all: Vec<_> = std::iter::from_fn(|| walk.next_raw().transpose()).map(bytes_of).collect();
+        assert_eq!(walk.next_raw(), Ok(None));
+        all
+    };
+    let none = &[][..];
+    let kinds = vec![
+        Ok((1, 9, 0, none, 0)),
+        Ok((2, 8, 7, none, 6)),
+        Ok((3, 6, 5, &[0x50][..], 10)),
+        Ok((4, 4, 5, none, 15)),
+        Ok((5, 0, 0, &[0x51, 0x52], 17)),
+        Ok((6, 0x33, 0, none, 0)),
+        Ok((7, 2, 3, none, 25)),
+        Ok((8, 1, 2, none, 29)),
+    ];
+    c.same(raw(LOCATION_KINDS, encoding(5, 1), false), kinds.clone());
+    let lists = location_lists(LOCATION_KINDS, Little);
+    let mut walk = lists.raw_locations(LocationListsOffset(0), encoding(5, 1)).unwrap();
+    c.same(std::iter::from_fn(|| walk.next().transpose()).map(bytes_of).collect::<Vec<_>>(), kinds);
+    let mut walk = open_locations(LOCATION_KINDS, encoding(5, 1), false, 0);
+    let places: Vec<u64> = (0..10).map(|_| walk.next_raw().map_or(0, |_| walk.place())).collect();
+    c.same(places, vec![2, 6, 11, 15, 19, 21, 25, 29, 31, 31]);
+    let gnu = location_lists(&[3, 1, 2, 0, 0, 0, 0, 0, 0], Little);
+    let mut walk = gnu.raw_locations_dwo(LocationListsOffset(0), encoding(4, 1)).unwrap();
+    c.same(walk.next().map(|raw| raw.map(Ok).map(bytes_of)), Ok(Some(Ok((3, 1, 2, none, 8)))));
+    c.same(walk.next(), Ok(None));
+    let bare = &[0xff, 0x20, 3, 5, 1, 0, 0x50, 0, 0, 1];
+    c.same(raw(bare, encoding(4, 1), false), vec![Ok((6, 0x20, 0, none, 0)), Ok((0, 3, 5, &[0x50], 6))]);
+    c.same(raw(&[3, 5, 1], encoding(4, 1), false), vec![Err(EOF)]);
+    c.same(raw(&[9], encoding(5, 1), false), vec![Err(Error::UnknownLocListsEntry(9))]);
+    c.same(raw(&[], encoding(5, 1), true), vec![]);
+}
+
+fn location_convert_raw(c: &mut Checks) {
+    use RawLocListEntry::*;
+    let mut walk = open_locations(&[4, 1, 2, 1, 0x50, 0], encoding(5, 4), false, 0x100);
+    let (index, data) = (DebugAddrIndex, Expression::new(&[0x77, 0x78]));
+    let found = |begin, end| Ok(Some(LocationListEntry { range: at(begin, end), data }));
+    c.same(walk.convert_raw(OffsetPair { begin: 1, end: 2, data }), found(0x101, 0x102));
+    c.same(walk.convert_raw(OffsetPair { begin: 2, end: 1, data }), Ok(None));
+    c.same(walk.convert_raw(AddressOrOffsetPair { begin: 3, end: 4, data }), found(0x103, 0x104));
+    c.same(walk.convert_raw(BaseAddress { addr: 0x200 }), Ok(None));
+    c.same(walk.convert_raw(OffsetPair { begin: 1, end: 2, data }), found(0x201, 0x202));
+    c.same(walk.convert_raw(BaseAddressx { addr: index(1) }), Ok(None));
+    c.same(walk.convert_raw(BaseAddressx { addr: index(7) }), Err(EOF));
+    c.same(walk.convert_raw(StartxEndx { begin: index(0), end: index(1), data }), found(0x10, 0x20));
+    c.same(walk.convert_raw(StartxEndx { begin: index(0), end: index(2), data }), Err(EOF));
+    c.same(walk.convert_raw(StartxLength { begin: index(1), length: 5, data }), found(0x20, 0x25));
+    c.same(
+        walk.convert_raw(StartxLength { begin: index(u64::MAX), length: 5, data }),
+        Err(Error::UnsupportedOffset),
+    );
+    c.same(walk.convert_raw(DefaultLocation { data }), found(0, u64::MAX));
+    c.same(walk.convert_raw(StartEnd { begin: 5, end: 7, data }), found(5, 7));
+    c.same(walk.convert_raw(StartLength { begin: 5, length: 7, data }), found(5, 12));
+    // The place has not moved, and the base is the second address.
+    let raw = walk.next_raw().unwrap().unwrap();
+    c.same(walk.convert_raw(raw).map(|l| l.map(told)), Ok(Some((at(0x21, 0x22), &[0x50][..], 4))));
+    c.same(walk.next(), Ok(None));
+}
+
+fn location_lookup(c: &mut Checks) {
+    let bytes = [8, 0x10, 0, 0, 0, 8, 1, 0x50, 4, 1, 2, 1, 0x51, 9];
+    let lookup = |end, size, offset, address| {
+        let (lists, table) = (location_lists(&bytes[..end], Little), DebugAddr::new(TABLE, Little));
+        let (offset, main) = (LocationListsOffset(offset), DwarfFileType::Main);
+        lists.lookup(offset, encoding(5, size), main, 0x100, &table, DebugAddrBase(8), address).map(|l| l.map(told))
+    };
+    c.same(lookup(13, 4, 0, 0x17), Ok(Some((at(0x10, 0x18), &bytes[7..8], 7))));
+    c.same(lookup(14, 4, 0, 0x101), Ok(Some((at(0x101, 0x102), &bytes[12..13], 12))));
+    c.same(lookup(13, 4, 0, 0x18), Ok(None));
+    c.same(lookup(13, 4, 0, u64::MAX), Ok(None));
+    c.same(lookup(14, 4, 0, 0x18), Err(Error::UnknownLocListsEntry(9)));
+    c.same(lookup(14, 4, u64::MAX, 0), Err(EOF));
+    c.same(lookup(0, 4, 0, 0), Ok(None));
+    c.same(lookup(0, 4, 1, 0), Err(EOF));
+    c.same(lookup(14, 7, u64::MAX, 0), Err(Error::UnsupportedAddressSize(7)));
+    let gnu = [3, 0, 8, 0, 0, 0, 1, 0, 0x50, 0];
+    let (lists, table) = (location_lists(&gnu, Little), DebugAddr::new(TABLE, Little));
+    let (offset, four, base) = (LocationListsOffset(0), encoding(4, 4), DebugAddrBase(8));
+    let found = |address| lists.lookup(offset, four, DwarfFileType::Dwo, 0, &table, base, address);
+    c.same(found(0x12).map(|l| l.map(told)), Ok(Some((at(0x10, 0x18), &gnu[8..9], 8))));
+    c.same(found(0x18), Ok(None));
+}
+
+// Coverage, sheets, canonical lists
+
+fn is(coverage: Result<Coverage>) -> Result<Vec<Range>> {
+    coverage.map(|coverage| coverage.ranges().collect())
+}
+
+/// Entries `07 begin 01` of size 4, each begin two above the one before.
+fn apart(n: u32) -> Vec<u8> {
+    (0..n).flat_map(|i| join(&[&[7], &(0x10 + 2 * i).to_le_bytes(), &[1]])).collect()
+}
+
+/// Document 01's two ranges that touch: 0x20 to 0x30 and 0x10 to 0x20.
+const TOUCHING: &[u8] = &[7, 0x20, 0, 0, 0, 0x10, 7, 0x10, 0, 0, 0, 0x10, 0];
+/// Their canonical list.
+const TOUCHING_CANONICAL: &[u8] = &[7, 0x10, 0, 0, 0, 0, 0, 0, 0, 0x20, 0];
+/// Their sheet.
+const TOUCHING_SHEET: &[u8] = &[1, 0, 8, 0, 0x10, 0, 0, 0, 0, 0, 0, 0, 0x30, 0, 0, 0, 0, 0, 0, 0];
+
+fn range_coverage(c: &mut Checks) {
+    let cover = |bytes: &[u8], size, offset| {
+        let table = DebugAddr::new(TABLE, Little);
+        let lists = RangeLists::new(DebugRanges::new(bytes, Little), DebugRngLists::new(bytes, Little));
+        is(lists.coverage(RangeListsOffset(offset), encoding(5, size), 0, &table, DebugAddrBase(8)))
+    };
+    c.same(cover(TOUCHING, 4, 0), Ok(vec![at(0x10, 0x30)]));
+    c.same(cover(TOUCHING, 4, 6), Ok(vec![at(0x10, 0x20)]));
+    c.same(cover(&[3, 1, 8, 3, 0, 4, 0], 4, 0), Ok(vec![at(0x10, 0x14), at(0x20, 0x28)]));
+    c.same(cover(&[6, 1, 9, 6, 2, 3, 6, 8, 10, 0], 1, 0), Ok(vec![at(1, 10)]));
+    c.same(cover(&[], 4, 0), Ok(vec![]));
+    c.same(cover(&[0], 4, 0), Ok(vec![]));
+    let full = cover(&apart(1024), 4, 0).map(|ranges| (ranges.len(), ranges[0], ranges[1023]));
+    c.same(full, Ok((1024, at(0x10, 0x11), at(0x80e, 0x80f))));
+    let same = [7, 0x10, 0, 0, 0, 1].repeat(1024);
+    c.same(cover(&same, 4, 0), Ok(vec![at(0x10, 0x11)]));
+    c.same(cover(&[7, 0x10, 0, 0, 0, 1].repeat(1025), 4, 0), Err(Error::TooManyRanges));
+    c.same(cover(&join(&[&apart(1025), &[8]]), 4, 0), Err(Error::TooManyRanges));
+    c.same(cover(&join(&[&apart(1024), &[8]]), 4, 0), Err(Error::UnknownRangeListsEntry(8)));
+    c.same(cover(&[2, 0, 2, 0], 4, 0), Err(EOF));
+    c.same(cover(TOUCHING, 4, u64::MAX), Err(EOF));
+    c.same(cover(TOUCHING, 3, u64::MAX), Err(Error::UnsupportedAddressSize(3)));
+}
+
+fn location_coverage(c: &mut Checks) {
+    let cover = |bytes: &[u8], version, file| {
+        let table = DebugAddr::new(TABLE, Little);
+        let lists = LocationLists::new(DebugLoc::new(bytes, Little), DebugLocLists::new(bytes, Little));
+        is(lists.coverage(LocationListsOffset(0), encoding(version, 4), file, 0, &table, DebugAddrBase(8)))
+    };
+    let (main, dwo) = (DwarfFileType::Main, DwarfFileType::Dwo);
+    c.same(cover(&[4, 1, 2, 1, 0x50, 4, 2, 4, 1, 0x51, 4, 6, 7, 0, 0], 5, main), Ok(vec![at(1, 4), at(6, 7)]));
+    c.same(cover(&[5, 0, 0], 5, main), Ok(vec![at(0, u64::MAX)]));
+    c.same(cover(&[3, 0, 8, 0, 0, 0, 1, 0, 0x50, 0], 4, dwo), Ok(vec![at(0x10, 0x18)]));
+    c.same(cover(&[], 4, main), Ok(vec![]));
+    c.same(cover(&[9], 5, main), Err(Error::UnknownLocListsEntry(9)));
+    c.same(cover(&[3, 2, 8, 0, 0, 0, 0, 0], 4, dwo), Err(EOF));
+    c.same(cover(&[5, 0].repeat(1025), 5, main), Err(Error::TooManyRanges));
+    c.same(cover(&[5, 0].repeat(1024), 5, main), Ok(vec![at(0, u64::MAX)]));
+}
+
+fn coverage_from_canonical(c: &mut Checks) {
+    let cover = |bytes: &[u8]| is(CanonicalList::new(bytes).coverage());
+    c.same(cover(TOUCHING_CANONICAL), Ok(vec![at(0x10, 0x30)]));
+    c.same(cover(&[0]), Ok(vec![]));
+    c.same(cover(&[]), Ok(vec![]));
+    c.same(cover(&TOUCHING_CANONICAL[..9]), Err(EOF));
+    c.same(cover(&[3, 0, 8, 0]), Err(EOF));
+    c.same(cover(&join(&[&[3], &INDEX_2_61, &[8, 0]])), Err(Error::UnsupportedOffset));
+    c.same(cover(&join(&[&[4], &NINE, &[2]])), Err(Error::BadUnsignedLeb128));
+    c.same(cover(&[8]), Err(Error::UnknownRangeListsEntry(8)));
+    c.same(cover(&TOUCHING_CANONICAL[..10].repeat(1025)), Err(Error::TooManyRanges));
+}
+
+/// A sheet by its fields.
+fn sheet_of(n: u16, width: u16, numbers: &[u64]) -> Vec<u8> {
+    let mut bytes = join(&[&n.to_le_bytes(), &width.to_le_bytes()]);
+    numbers.iter().for_each(|x| bytes.extend(x.to_le_bytes()));
+    bytes
+}
+
+fn coverage_from_sheet(c: &mut Checks) {
+    let cover = |bytes: &[u8]| is(Sheet::new(bytes).coverage());
+    let bad = || Err(Error::BadSheet);
+    c.same(cover(TOUCHING_SHEET), Ok(vec![at(0x10, 0x30)]));
+    c.same(cover(&[0, 0, 8, 0]), Ok(vec![]));
+    c.same(cover(&sheet_of(2, 8, &[0, 3, 2, 4])), Ok(vec![at(0, 2), at(3, 4)]));
+    let last = u64::MAX - 2;
+    c.same(cover(&sheet_of(1, 8, &[last, u64::MAX])), Ok(vec![at(last, u64::MAX)]));
+    c.same(cover(&sheet_of(1, 8, &[last + 1, u64::MAX])), bad());
+    c.same(cover(&[1, 0, 8, 0]), bad());
+    c.same(cover(&[]), bad());
+    c.same(cover(&[0, 0, 8]), bad());
+    c.same(cover(&[0, 0, 8, 0, 0]), bad());
+    c.same(cover(&sheet_of(1, 4, &[1, 2])), bad());
+    c.same(cover(&sheet_of(1, 8, &[2, 2])), bad());
+    c.same(cover(&sheet_of(1, 8, &[3, 2])), bad());
+    c.same(cover(&sheet_of(2, 8, &[0, 2, 2, 4])), bad());
+    c.same(cover(&sheet_of(2, 8, &[4, 0, 5, 1])), bad());
+    let numbers: Vec<u64> = (0..1025).map(|i| 2 * i).chain((0..1025).map(|i| 2 * i + 1)).collect();
+    c.same(cover(&sheet_of(1025, 8, &numbers)), bad());
+    let numbers: Vec<u64> = (0..1024).map(|i| 2 * i).chain((0..1024).map(|i| 2 * i + 1)).collect();
+    c.same(cover(&sheet_of(1024, 8, &numbers)).map(|ranges| ranges.len()), Ok(1024));
+}
+
+/// What a call writes into an output of a length, and all of the output after it.
+fn into(
+    len: usize,
+    call: impl FnOnce(&mut [u8]) -> Result<usize>,
+) -> (Result<usize>, Vec<u8>) {
+    let mut output = vec![0xee; len];
+    let wrote = call(&mut output);
+    (wrote, output)
+}
+
+fn untouched(len: usize, e: Error) -> (Result<usize>, Vec<u8>) {
+    (Err(e), vec![0xee; len])
+}
+
+fn coverage(ranges: &[(u64, u64)]) -> Coverage {
+    let ranges: Vec<Range> = ranges.iter().map(|&(begin, end)| at(begin, end)).collect();
+    Coverage::from_ranges(&ranges).expect("not more than 1,024 ranges")
+}
+
+/// Ranges that make no lawful sheet.
+const UNLAWFUL: &[&[(u64, u64)]] =
+    &[&[(2, 2)], &[(3, 2)], &[(0, 2), (2, 4)], &[(4, 5), (0, 1)], &[(u64::MAX - 1, u64::MAX)]];
+
+fn sheet(c: &mut Checks) {
+    let write = |ranges, len| into(len, |o| coverage(ranges).sheet(o).map(|sheet| sheet.bytes().len()));
+    c.same(write(&[(0x10, 0x30)], 20), (Ok(20), TOUCHING_SHEET.to_vec()));
+    c.same(write(&[(0x10, 0x30)], 22), (Ok(20), join(&[TOUCHING_SHEET, &[0xee; 2]])));
+    c.same(write(&[], 4), (Ok(4), vec![0, 0, 8, 0]));
+    c.same(write(&[(0, 2), (3, 4)], 36), (Ok(36), sheet_of(2, 8, &[0, 3, 2, 4])));
+    c.same(write(&[(0x10, 0x30)], 19), untouched(19, Error::NoSpace));
+    c.same(write(&[], 0), untouched(0, Error::NoSpace));
+    for ranges in UNLAWFUL {
+        c.same(write(ranges, 64), untouched(64, Error::BadSheet));
+        c.same(write(ranges, 0), untouched(0, Error::BadSheet));
+    }
+    let many = vec![at(1, 2); LIMIT + 1];
+    c.same(Coverage::from_ranges(&many).map(|_| ()), Err(Error::BadSheet));
+    let full: Vec<(u64, u64)> = (0..1024).map(|i| (2 * i, 2 * i + 1)).collect();
+    c.same(write(&full, SHEET_MAX).0, Ok(SHEET_MAX));
+    c.same((coverage(&full).len(), coverage(&[]).is_empty()), (1024, true));
+}
+
+fn canonical(c: &mut Checks) {
+    let write = |ranges, len| into(len, |o| coverage(ranges).canonical(o).map(|list| list.bytes().len()));
+    c.same(write(&[(0x10, 0x30)], 11), (Ok(11), TOUCHING_CANONICAL.to_vec()));
+    c.same(write(&[(0x10, 0x30)], 12), (Ok(11), join(&[TOUCHING_CANONICAL, &[0xee]])));
+    c.same(write(&[], 1), (Ok(1), vec![0]));
+    let two = [7, 0, 0, 0, 0, 0, 0, 0, 0, 0x7f, 7, 0x80, 0, 0, 0, 0, 0, 0, 0, 0x80, 1, 0];
+    c.same(write(&[(0, 0x7f), (0x80, 0x100)], 22), (Ok(22), two.to_vec()));
+    let all = join(&[&[7, 0, 0, 0, 0, 0, 0, 0, 0], &[0xff; 9], &[1, 0]]);
+    c.same(write(&[(0, u64::MAX)], 20), (Ok(20), all));
+    c.same(write(&[(0x10, 0x30)], 10), untouched(10, Error::NoSpace));
+    c.same(write(&[], 0), untouched(0, Error::NoSpace));
+    for ranges in UNLAWFUL {
+        c.same(write(ranges, 64), untouched(64, Error::BadSheet));
+        c.same(write(ranges, 0), untouched(0, Error::BadSheet));
+    }
+}
+
+fn range_canonical(c: &mut Checks) {
+    let write = |bytes: &[u8], size, offset, len| {
+        let table = DebugAddr::new(TABLE, Little);
+        let lists = RangeLists::new(DebugRanges::default(), DebugRngLists::new(bytes, Little));
+        let (offset, encoding, base) = (RangeListsOffset(offset), encoding(5, size), DebugAddrBase(8));
+        into(len, |o| lists.canonical(offset, encoding, 0, &table, base, o).map(|list| list.bytes().len()))
+    };
+    c.same(write(TOUCHING, 4, 0, 12), (Ok(11), join(&[TOUCHING_CANONICAL, &[0xee]])));
+    c.same(write(&[3, 0, 0x20, 0], 4, 0, 11), (Ok(11), TOUCHING_CANONICAL.to_vec()));
+    c.same(write(&[], 4, 0, 1), (Ok(1), vec![0]));
+    c.same(write(TOUCHING, 4, 0, 10), untouched(10, Error::NoSpace));
+    c.same(write(&[0], 4, 0, 0), untouched(0, Error::NoSpace));
+    c.same(write(&[8], 4, 0, 0), untouched(0, Error::UnknownRangeListsEntry(8)));
+    c.same(write(&join(&[&TOUCHING[..12], &[8]]), 4, 0, 16), untouched(16, Error::UnknownRangeListsEntry(8)));
+    c.same(write(&apart(1025), 4, 0, 16), untouched(16, Error::TooManyRanges));
+    c.same(write(TOUCHING, 4, u64::MAX, 16), untouched(16, EOF));
+    c.same(write(TOUCHING, 0, u64::MAX, 16), untouched(16, Error::UnsupportedAddressSize(0)));
+    let full = write(&apart(1024), 4, 0, CANONICAL_MAX);
+    c.same((full.0, full.1[10 * 1024], full.1[10 * 1024 + 1]), (Ok(10 * 1024 + 1), 0, 0xee));
+}
+
+fn location_canonical(c: &mut Checks) {
+    let write = |bytes: &[u8], version, file, offset, len| {
+        let table = DebugAddr::new(TABLE, Little);
+        let lists = LocationLists::new(DebugLoc::new(bytes, Little), DebugLocLists::new(bytes, Little));
+        let (offset, encoding, base) = (LocationListsOffset(offset), encoding(version, 4), DebugAddrBase(8));
+        into(len, |o| lists.canonical(offset, encoding, file, 0, &table, base, o).map(|list| list.bytes().len()))
+    };
+    let (main, dwo) = (DwarfFileType::Main, DwarfFileType::Dwo);
+    let gnu = [3, 0, 0x20, 0, 0, 0, 1, 0, 0x50, 0];
+    c.same(write(&gnu, 4, dwo, 0, 12), (Ok(11), join(&[TOUCHING_CANONICAL, &[0xee]])));
+    c.same(write(&[4, 0x10, 0x30, 0, 0], 5, main, 0, 11), (Ok(11), TOUCHING_CANONICAL.to_vec()));
+    c.same(write(&[], 5, main, 0, 1), (Ok(1), vec![0]));
+    c.same(write(&gnu, 4, dwo, 0, 10), untouched(10, Error::NoSpace));
+    c.same(write(&gnu, 4, main, 0, 16), untouched(16, EOF));
+    c.same(write(&[9], 5, main, 0, 0), untouched(0, Error::UnknownLocListsEntry(9)));
+    c.same(write(&gnu, 4, dwo, u64::MAX, 16), untouched(16, EOF));
+    c.same(write(&[5, 0].repeat(1025), 5, main, 0, 16), untouched(16, Error::TooManyRanges));
+}
