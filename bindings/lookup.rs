@@ -14,7 +14,8 @@ usage: lookup FILE ranges|locations VERSION OFFSET ADDRESS [OPTION..]
 VERSION is the unit's, OFFSET the list's in its section. Numbers are decimal, or hexadecimal with 0x.
 Options:
   base=ADDRESS     the unit's base address (DW_AT_low_pc); 0 if not given
-  addr-base=N      where the unit's addresses begin in .debug_addr (DW_AT_addr_base); its first table if not given
+  addr-base=N      where the unit's addresses begin in .debug_addr (DW_AT_addr_base); if not given, behind its first
+                   header, or 0 up to version 4, which has no headers there
   addr-file=FILE   the file with .debug_addr, where it is another one, as for a .dwo file
   size=N           the size of an address; the file's if not given
   split            the sections of a .dwo file
@@ -312,7 +313,7 @@ struct Unit<'a> {
     address_size: u8,
     base_address: u64,
     debug_addr: DebugAddr<'a>,
-    addr_base: DebugAddrBase,
+    addr_base: Option<DebugAddrBase>,
     file_type: DwarfFileType,
 }
 
@@ -322,19 +323,26 @@ impl<'a> Unit<'a> {
             return Err("the byte order is not the other file's".into());
         }
         let section = addr_elf.section(".debug_addr")?.unwrap_or(&[]);
-        let debug_addr = DebugAddr::new(section, addr_elf.endian);
         Ok(Unit {
             endian: elf.endian,
             address_size: request.size.unwrap_or(elf.word),
             base_address: request.base_address,
-            debug_addr,
-            addr_base: request.addr_base.map_or_else(|| first_table(&debug_addr), DebugAddrBase),
+            debug_addr: DebugAddr::new(section, addr_elf.endian),
+            addr_base: request.addr_base.map(DebugAddrBase),
             file_type: if request.split { DwarfFileType::Dwo } else { DwarfFileType::Main },
         })
     }
 
     fn encoding(&self, version: u16) -> Encoding {
         Encoding { address_size: self.address_size, format: Format::Dwarf32, version }
+    }
+
+    fn addr_base(&self, version: u16) -> DebugAddrBase {
+        match (self.addr_base, version) {
+            (Some(base), _) => base,
+            (None, 0..=4) => DebugAddrBase(0),
+            (None, _) => first_table(&self.debug_addr),
+        }
     }
 
     fn is_split(&self) -> bool {
@@ -352,7 +360,7 @@ impl<'a> Unit<'a> {
         let lists = self.range_lists(elf.needed(&name)?);
         let (offset, encoding) = (RangeListsOffset(offset), self.encoding(version));
         let found =
-            lists.lookup(offset, encoding, self.base_address, &self.debug_addr, self.addr_base, address);
+            lists.lookup(offset, encoding, self.base_address, &self.debug_addr, self.addr_base(version), address);
         Ok(self.told(found, |range| self.range_text(range)))
     }
 
@@ -360,8 +368,8 @@ impl<'a> Unit<'a> {
         let name = self.name(if version <= 4 { ".debug_loc" } else { ".debug_loclists" });
         let lists = self.location_lists(elf.needed(&name)?);
         let (offset, encoding, base) = (LocationListsOffset(offset), self.encoding(version), self.base_address);
-        let found =
-            lists.lookup(offset, encoding, self.file_type, base, &self.debug_addr, self.addr_base, address);
+        let (table, table_base) = (&self.debug_addr, self.addr_base(version));
+        let found = lists.lookup(offset, encoding, self.file_type, base, table, table_base, address);
         Ok(self.told(found, |location| self.location_text(location)))
     }
 
@@ -503,7 +511,8 @@ impl<'a> Unit<'a> {
     fn list_ranges(&self, section: &'a [u8], at: At, text: &mut String) -> yeltzarun::Result<u64> {
         let lists = self.range_lists(section);
         let (offset, encoding, base) = (RangeListsOffset(at.offset), at.encoding, self.base_address);
-        let mut walk = lists.ranges(offset, encoding, base, &self.debug_addr, self.addr_base)?;
+        let table_base = self.addr_base(encoding.version);
+        let mut walk = lists.ranges(offset, encoding, base, &self.debug_addr, table_base)?;
         loop {
             let place = walk.place();
             let Some(raw) = walk.next_raw()? else {
@@ -521,9 +530,10 @@ impl<'a> Unit<'a> {
     fn list_locations(&self, section: &'a [u8], at: At, text: &mut String) -> yeltzarun::Result<u64> {
         let lists = self.location_lists(section);
         let (offset, encoding, base) = (LocationListsOffset(at.offset), at.encoding, self.base_address);
+        let (table, table_base) = (&self.debug_addr, self.addr_base(encoding.version));
         let mut walk = match self.file_type {
-            DwarfFileType::Main => lists.locations(offset, encoding, base, &self.debug_addr, self.addr_base),
-            DwarfFileType::Dwo => lists.locations_dwo(offset, encoding, base, &self.debug_addr, self.addr_base),
+            DwarfFileType::Main => lists.locations(offset, encoding, base, table, table_base),
+            DwarfFileType::Dwo => lists.locations_dwo(offset, encoding, base, table, table_base),
         }?;
         loop {
             let place = walk.place();

@@ -116,7 +116,7 @@ fn the_three_outcomes_in_every_class_and_order() {
         assert_eq!(ask(&file, "locations 5 0x1000 0"), Ok("refused 1 UnexpectedEof\n".into()));
         assert_eq!(ask(&file, "locations 5 12 0x10 size=3"), Ok("refused 6 UnsupportedAddressSize\n".into()));
         assert_eq!(ask(&file, "locations 4 0 0x41 base=0x40"), found("41", "43", ", expression 50 51"));
-        assert_eq!(ask(&file, "locations 4 0 0x12 split"), found("10", "18", ", expression 50"));
+        assert_eq!(ask(&file, "locations 4 0 0x12 split addr-base=8"), found("10", "18", ", expression 50"));
         assert_eq!(ask(&file, "locations 5 12 0x17 split"), found("10", "18", ", expression 50"));
         assert_eq!(ask(&file, "ranges 5 12 0x10"), found("10", "18", ""));
         assert_eq!(ask(&file, "ranges 5 12 0x10 addr-base=0x999"), Ok("refused 1 UnexpectedEof\n".into()));
@@ -157,17 +157,20 @@ fn the_listing() {
     00000010 to 00000018, expression 50
     00000020 to 00000028, expression
 ";
-    assert_eq!(ask(&sample(4, false), "list split"), Ok(expected.into()));
+    assert_eq!(ask(&sample(4, false), "list split addr-base=8"), Ok(expected.into()));
 }
 
 #[test]
 fn an_address_table_of_another_file() {
     let words = |text: &str| text.split(' ').map(String::from).collect::<Vec<_>>();
-    let request = Request::parse(&words("a.dwo locations 4 0 0x12 split addr-file=a")).unwrap();
+    let request = Request::parse(&words("a.dwo locations 4 0 0x12 split addr-file=a addr-base=8")).unwrap();
     let dwo = File::new(8, false).with(".debug_loc.dwo", &[3, 0, 8, 0, 0, 0, 1, 0, 0x50, 0]).finish();
     let found = "0000000000000010 to 0000000000000018, expression 50\n".to_string();
-    assert_eq!(answer(&request, &dwo, &sample(8, false)), Ok(found));
+    assert_eq!(answer(&request, &dwo, &sample(8, false)), Ok(found.clone()));
     assert_eq!(answer(&request, &dwo, &dwo), Ok("refused 1 UnexpectedEof\n".into()));
+    let bare = File::new(8, false).with(".debug_addr", &[0x10, 0, 0, 0, 0, 0, 0, 0]).finish();
+    let request_bare = Request::parse(&words("a.dwo locations 4 0 0x12 split addr-file=a")).unwrap();
+    assert_eq!(answer(&request_bare, &dwo, &bare), Ok(found));
     let wrong = "a: the byte order is not the other file's".to_string();
     assert_eq!(answer(&request, &dwo, &sample(8, true)), Err(wrong));
 }

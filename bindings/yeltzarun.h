@@ -3,7 +3,8 @@
  * Every call ends, reads no byte outside the bytes that it is lent, and answers every input; nothing has to be checked
  * before it. The caller sees to it that a pointer and its length name readable bytes (the pointer may be NULL where the
  * length is 0), that a pointer to words is not NULL and not lent twice in one call, and that no other thread writes what
- * is lent. The library is for x86-64: size_t has 64 bits.
+ * is lent. The library is for x86-64: size_t has 64 bits. The calls over coverages take about 100 KB of stack, the others
+ * less than 1 KB.
  *
  * A call gives one of the result codes and fills the words of its array. With YZ_REFUSED, w[2] has the refusal's number and
  * w[3] its value, 0 where it has none. Words that are not named are 0.
