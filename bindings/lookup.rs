@@ -1,7 +1,7 @@
 //! Looks an address up in a range list or a location list of an ELF file.
 //!
-//! The file is taken apart by a small reader of its own, which reads its numbers through the wrapper too. Whatever the file
-//! has, it is answered or the program says what is wrong with it.
+//! The file is taken apart by a small reader of its own, which reads its numbers through the
+//! wrapper too. Whatever the file has, it is answered or the program says what is wrong with it.
 
 use std::io::Write as _;
 use std::process::ExitCode;
@@ -11,16 +11,16 @@ const USAGE: &str = "\
 usage: lookup FILE ranges|locations VERSION OFFSET ADDRESS [OPTION..]
        lookup FILE list [OPTION..]
 
-VERSION is the unit's, OFFSET the list's in its section. Numbers are decimal, or hexadecimal with 0x.
-Options:
+VERSION is the unit's, OFFSET the list's in its section. Numbers are decimal, or hexadecimal
+with 0x. Options:
   base=ADDRESS     the unit's base address (DW_AT_low_pc); 0 if not given
-  addr-base=N      where the unit's addresses begin in .debug_addr (DW_AT_addr_base); if not given, behind its first
-                   header, or 0 up to version 4, which has no headers there
+  addr-base=N      where the unit's addresses begin in .debug_addr (DW_AT_addr_base); if not
+                   given, behind its first header, or 0 up to version 4, which has none there
   addr-file=FILE   the file with .debug_addr, where it is another one, as for a .dwo file
   size=N           the size of an address; the file's if not given
   split            the sections of a .dwo file
-`list` prints each list with the words that look it up, and what it yields. It takes lists to stand one behind the other, as
-they do where gcc was given -gno-variable-location-views.
+`list` prints each list with the words that look it up, and what it yields. It takes lists to
+stand one behind the other, as they do where gcc was given -gno-variable-location-views.
 ";
 
 type Outcome<T> = std::result::Result<T, String>;
@@ -53,14 +53,19 @@ fn run(words: &[String]) -> Outcome<String> {
 /// The answer over the bytes of the file, and of the one with the address table.
 fn answer(request: &Request, bytes: &[u8], addr_bytes: &[u8]) -> Outcome<String> {
     let in_file = |wrong| format!("{}: {wrong}", request.file);
-    let in_addr_file = |wrong| format!("{}: {wrong}", request.addr_file.as_ref().unwrap_or(&request.file));
+    let in_addr_file =
+        |wrong| format!("{}: {wrong}", request.addr_file.as_ref().unwrap_or(&request.file));
     let elf = Elf::parse(bytes).map_err(in_file)?;
     let addr_elf = Elf::parse(addr_bytes).map_err(in_addr_file)?;
     let unit = Unit::new(request, &elf, &addr_elf).map_err(in_addr_file)?;
     let answer = match request.wanted {
         Wanted::List => unit.list(&elf),
-        Wanted::Range { version, offset, address } => unit.find_range(&elf, version, offset, address),
-        Wanted::Location { version, offset, address } => unit.find_location(&elf, version, offset, address),
+        Wanted::Range { version, offset, address } => {
+            unit.find_range(&elf, version, offset, address)
+        }
+        Wanted::Location { version, offset, address } => {
+            unit.find_location(&elf, version, offset, address)
+        }
     };
     answer.map_err(in_file)
 }
@@ -105,7 +110,13 @@ impl Request {
         };
         let file = file.to_string();
         let request = Request {
-            file, wanted, base_address: 0, addr_base: None, addr_file: None, size: None, split: false,
+            file,
+            wanted,
+            base_address: 0,
+            addr_base: None,
+            addr_file: None,
+            size: None,
+            split: false,
         };
         options.iter().try_fold(request, |request, word| request.with(word))
     }
@@ -205,7 +216,8 @@ impl<'a> Elf<'a> {
 
     fn row(&self, header: &Header, index: u64) -> Outcome<Row> {
         let cut = || format!("section header {index} lies outside the file");
-        let offset = index.checked_mul(header.entry_size).and_then(|rows| rows.checked_add(header.table));
+        let offset =
+            index.checked_mul(header.entry_size).and_then(|rows| rows.checked_add(header.table));
         self.read_row(offset.ok_or_else(cut)?).map_err(|_| cut())
     }
 
@@ -241,7 +253,8 @@ impl<'a> Elf<'a> {
         let names = self.contents(names).ok_or("the section names lie outside the file")?;
         for index in 0..header.count {
             let row = self.row(&header, index)?;
-            let name = name_at(names, row.name).ok_or(format!("the name of section {index} is not there"))?;
+            let name = name_at(names, row.name)
+                .ok_or(format!("the name of section {index} is not there"))?;
             self.sections.push(Section { name, row });
         }
         Ok(())
@@ -267,7 +280,8 @@ impl<'a> Elf<'a> {
         if row.flags & SHF_COMPRESSED != 0 {
             return Err(format!("{name} is compressed: objcopy --decompress-debug-sections helps"));
         }
-        let unrelocated = [".rel", ".rela"].iter().any(|prefix| self.find(&format!("{prefix}{name}")).is_some());
+        let unrelocated =
+            [".rel", ".rela"].iter().any(|prefix| self.find(&format!("{prefix}{name}")).is_some());
         if self.relocatable && unrelocated {
             return Err(format!("{name} is not relocated yet: link the file first"));
         }
@@ -354,35 +368,65 @@ impl<'a> Unit<'a> {
         if self.is_split() { format!("{name}.dwo") } else { name.to_string() }
     }
 
-    fn find_range(&self, elf: &Elf<'a>, version: u16, offset: u64, address: u64) -> Outcome<String> {
+    fn find_range(
+        &self,
+        elf: &Elf<'a>,
+        version: u16,
+        offset: u64,
+        address: u64,
+    ) -> Outcome<String> {
         // .debug_ranges stays in the main file.
         let name = if version <= 4 { ".debug_ranges".into() } else { self.name(".debug_rnglists") };
         let lists = self.range_lists(elf.needed(&name)?);
         let (offset, encoding) = (RangeListsOffset(offset), self.encoding(version));
-        let found =
-            lists.lookup(offset, encoding, self.base_address, &self.debug_addr, self.addr_base(version), address);
+        let found = lists.lookup(
+            offset,
+            encoding,
+            self.base_address,
+            &self.debug_addr,
+            self.addr_base(version),
+            address,
+        );
         Ok(self.told(found, |range| self.range_text(range)))
     }
 
-    fn find_location(&self, elf: &Elf<'a>, version: u16, offset: u64, address: u64) -> Outcome<String> {
+    fn find_location(
+        &self,
+        elf: &Elf<'a>,
+        version: u16,
+        offset: u64,
+        address: u64,
+    ) -> Outcome<String> {
         let name = self.name(if version <= 4 { ".debug_loc" } else { ".debug_loclists" });
         let lists = self.location_lists(elf.needed(&name)?);
-        let (offset, encoding, base) = (LocationListsOffset(offset), self.encoding(version), self.base_address);
+        let (offset, encoding, base) =
+            (LocationListsOffset(offset), self.encoding(version), self.base_address);
         let (table, table_base) = (&self.debug_addr, self.addr_base(version));
-        let found = lists.lookup(offset, encoding, self.file_type, base, table, table_base, address);
+        let found =
+            lists.lookup(offset, encoding, self.file_type, base, table, table_base, address);
         Ok(self.told(found, |location| self.location_text(location)))
     }
 
     /// A section stands for both; the version chooses.
     fn range_lists<'s>(&self, section: &'s [u8]) -> RangeLists<'s> {
-        RangeLists::new(DebugRanges::new(section, self.endian), DebugRngLists::new(section, self.endian))
+        RangeLists::new(
+            DebugRanges::new(section, self.endian),
+            DebugRngLists::new(section, self.endian),
+        )
     }
 
     fn location_lists<'s>(&self, section: &'s [u8]) -> LocationLists<'s> {
-        LocationLists::new(DebugLoc::new(section, self.endian), DebugLocLists::new(section, self.endian))
+        LocationLists::new(
+            DebugLoc::new(section, self.endian),
+            DebugLocLists::new(section, self.endian),
+        )
     }
 
-    fn told<T>(&self, found: yeltzarun::Result<Option<T>>, text: impl FnOnce(T) -> String) -> String {
+    fn told<T>(
+        &self,
+        found: yeltzarun::Result<Option<T>>,
+        text: impl FnOnce(T) -> String,
+    ) -> String {
         match found {
             Ok(Some(item)) => text(item) + "\n",
             Ok(None) => "not there\n".into(),
@@ -473,7 +517,8 @@ impl<'a> Unit<'a> {
             };
             let lists = start + usize::from(header.size());
             let end = lists + unit.len();
-            let offsets = u64::from(header.offset_entry_count) * u64::from(header.encoding.format.word_size());
+            let offsets = u64::from(header.offset_entry_count)
+                * u64::from(header.encoding.format.word_size());
             // Cut at the unit's end, no byte is walked over for two units.
             let upto = section.get(..end).unwrap_or(section);
             self.list_lists(upto, kind, lists as u64 + offsets, header.encoding, text);
@@ -486,7 +531,14 @@ impl<'a> Unit<'a> {
     }
 
     /// The lists that stand one behind the other from an offset on.
-    fn list_lists(&self, section: &'a [u8], kind: Kind, from: u64, encoding: Encoding, text: &mut String) {
+    fn list_lists(
+        &self,
+        section: &'a [u8],
+        kind: Kind,
+        from: u64,
+        encoding: Encoding,
+        text: &mut String,
+    ) {
         let mut offset = from;
         while offset < section.len() as u64 {
             let split = if self.is_split() { " .. split" } else { "" };
@@ -510,7 +562,8 @@ impl<'a> Unit<'a> {
     /// What a range list yields, and the place behind its end mark.
     fn list_ranges(&self, section: &'a [u8], at: At, text: &mut String) -> yeltzarun::Result<u64> {
         let lists = self.range_lists(section);
-        let (offset, encoding, base) = (RangeListsOffset(at.offset), at.encoding, self.base_address);
+        let (offset, encoding, base) =
+            (RangeListsOffset(at.offset), at.encoding, self.base_address);
         let table_base = self.addr_base(encoding.version);
         let mut walk = lists.ranges(offset, encoding, base, &self.debug_addr, table_base)?;
         loop {
@@ -527,9 +580,15 @@ impl<'a> Unit<'a> {
     }
 
     /// What a location list yields, and the place behind its end mark.
-    fn list_locations(&self, section: &'a [u8], at: At, text: &mut String) -> yeltzarun::Result<u64> {
+    fn list_locations(
+        &self,
+        section: &'a [u8],
+        at: At,
+        text: &mut String,
+    ) -> yeltzarun::Result<u64> {
         let lists = self.location_lists(section);
-        let (offset, encoding, base) = (LocationListsOffset(at.offset), at.encoding, self.base_address);
+        let (offset, encoding, base) =
+            (LocationListsOffset(at.offset), at.encoding, self.base_address);
         let (table, table_base) = (&self.debug_addr, self.addr_base(encoding.version));
         let mut walk = match self.file_type {
             DwarfFileType::Main => lists.locations(offset, encoding, base, table, table_base),

@@ -29,7 +29,11 @@ impl File {
 
     /// The low bytes of a number in the file's order.
     fn number(&self, x: u64, width: usize) -> Vec<u8> {
-        if self.big { x.to_be_bytes()[8 - width..].to_vec() } else { x.to_le_bytes()[..width].to_vec() }
+        if self.big {
+            x.to_be_bytes()[8 - width..].to_vec()
+        } else {
+            x.to_le_bytes()[..width].to_vec()
+        }
     }
 
     fn address(&self, x: u64) -> Vec<u8> {
@@ -44,12 +48,16 @@ impl File {
     fn finish(mut self) -> Vec<u8> {
         let mut names = Vec::new();
         self.rows.push((".shstrtab", 3, 0, self.bytes.len() as u64, 0));
-        let name_at: Vec<u64> = self.rows.iter().map(|row| {
-            let at = names.len() as u64;
-            names.extend(row.0.as_bytes());
-            names.push(0);
-            at
-        }).collect();
+        let name_at: Vec<u64> = self
+            .rows
+            .iter()
+            .map(|row| {
+                let at = names.len() as u64;
+                names.extend(row.0.as_bytes());
+                names.push(0);
+                at
+            })
+            .collect();
         self.rows.last_mut().unwrap().4 = names.len() as u64;
         self.bytes.extend(names);
         let table = self.bytes.len() as u64;
@@ -57,8 +65,15 @@ impl File {
         for (row, name) in rows.iter().zip(name_at) {
             let (_, kind, flags, offset, size) = *row;
             let fields = [
-                self.number(name, 4), self.number(kind.into(), 4), self.address(flags), self.address(0),
-                self.address(offset), self.address(size), self.number(0, 4), self.number(0, 4), self.address(1),
+                self.number(name, 4),
+                self.number(kind.into(), 4),
+                self.address(flags),
+                self.address(0),
+                self.address(offset),
+                self.address(size),
+                self.number(0, 4),
+                self.number(0, 4),
+                self.address(1),
                 self.address(0),
             ];
             self.bytes.extend(fields.concat());
@@ -89,9 +104,11 @@ fn sample(word: usize, big: bool) -> Vec<u8> {
     let size = word as u8;
     let table = [n(4 + 2 * word as u64, 4), n(5, 2), vec![size, 0], a(0x10), a(0x20)].concat();
     let loclist = [vec![8], a(0x10), vec![8, 1, 0x50], vec![3, 1, 8, 0, 0]].concat();
-    let loclists = [n(8 + loclist.len() as u64, 4), n(5, 2), vec![size, 0], n(0, 4), loclist].concat();
+    let loclists =
+        [n(8 + loclist.len() as u64, 4), n(5, 2), vec![size, 0], n(0, 4), loclist].concat();
     let rnglist = vec![3, 0, 8, 0, 4, 1, 2, 0];
-    let rnglists = [n(8 + rnglist.len() as u64, 4), n(5, 2), vec![size, 0], n(0, 4), rnglist].concat();
+    let rnglists =
+        [n(8 + rnglist.len() as u64, 4), n(5, 2), vec![size, 0], n(0, 4), rnglist].concat();
     let ranges = [a(1), a(3), a(0), a(0), a(5), a(6), a(0), a(0)].concat();
     let loc = [a(1), a(3), n(2, 2), vec![0x50, 0x51], a(0), a(0)].concat();
     let gnu = [vec![3, 0], n(8, 4), n(1, 2), vec![0x50, 0]].concat();
@@ -109,17 +126,30 @@ fn sample(word: usize, big: bool) -> Vec<u8> {
 fn the_three_outcomes_in_every_class_and_order() {
     for (word, big) in SHAPES {
         let (file, zeros) = (sample(word, big), "0".repeat(2 * word - 2));
-        let found = |begin: &str, end: &str, x: &str| Ok(format!("{zeros}{begin} to {zeros}{end}{x}\n"));
+        let found =
+            |begin: &str, end: &str, x: &str| Ok(format!("{zeros}{begin} to {zeros}{end}{x}\n"));
         assert_eq!(ask(&file, "locations 5 12 0x17"), found("10", "18", ", expression 50"));
         assert_eq!(ask(&file, "locations 5 12 0x20"), found("20", "28", ", expression"));
         assert_eq!(ask(&file, "locations 5 12 0x18"), Ok("not there\n".into()));
         assert_eq!(ask(&file, "locations 5 0x1000 0"), Ok("refused 1 UnexpectedEof\n".into()));
-        assert_eq!(ask(&file, "locations 5 12 0x10 size=3"), Ok("refused 6 UnsupportedAddressSize\n".into()));
-        assert_eq!(ask(&file, "locations 4 0 0x41 base=0x40"), found("41", "43", ", expression 50 51"));
-        assert_eq!(ask(&file, "locations 4 0 0x12 split addr-base=8"), found("10", "18", ", expression 50"));
+        assert_eq!(
+            ask(&file, "locations 5 12 0x10 size=3"),
+            Ok("refused 6 UnsupportedAddressSize\n".into())
+        );
+        assert_eq!(
+            ask(&file, "locations 4 0 0x41 base=0x40"),
+            found("41", "43", ", expression 50 51")
+        );
+        assert_eq!(
+            ask(&file, "locations 4 0 0x12 split addr-base=8"),
+            found("10", "18", ", expression 50")
+        );
         assert_eq!(ask(&file, "locations 5 12 0x17 split"), found("10", "18", ", expression 50"));
         assert_eq!(ask(&file, "ranges 5 12 0x10"), found("10", "18", ""));
-        assert_eq!(ask(&file, "ranges 5 12 0x10 addr-base=0x999"), Ok("refused 1 UnexpectedEof\n".into()));
+        assert_eq!(
+            ask(&file, "ranges 5 12 0x10 addr-base=0x999"),
+            Ok("refused 1 UnexpectedEof\n".into())
+        );
         assert_eq!(ask(&file, "ranges 5 16 0x41 base=64"), found("41", "42", ""));
         assert_eq!(ask(&file, "ranges 4 0 2"), found("01", "03", ""));
         assert_eq!(ask(&file, "ranges 4 0 5"), Ok("not there\n".into()));
@@ -163,13 +193,16 @@ fn the_listing() {
 #[test]
 fn an_address_table_of_another_file() {
     let words = |text: &str| text.split(' ').map(String::from).collect::<Vec<_>>();
-    let request = Request::parse(&words("a.dwo locations 4 0 0x12 split addr-file=a addr-base=8")).unwrap();
-    let dwo = File::new(8, false).with(".debug_loc.dwo", &[3, 0, 8, 0, 0, 0, 1, 0, 0x50, 0]).finish();
+    let request =
+        Request::parse(&words("a.dwo locations 4 0 0x12 split addr-file=a addr-base=8")).unwrap();
+    let dwo =
+        File::new(8, false).with(".debug_loc.dwo", &[3, 0, 8, 0, 0, 0, 1, 0, 0x50, 0]).finish();
     let found = "0000000000000010 to 0000000000000018, expression 50\n".to_string();
     assert_eq!(answer(&request, &dwo, &sample(8, false)), Ok(found.clone()));
     assert_eq!(answer(&request, &dwo, &dwo), Ok("refused 1 UnexpectedEof\n".into()));
     let bare = File::new(8, false).with(".debug_addr", &[0x10, 0, 0, 0, 0, 0, 0, 0]).finish();
-    let request_bare = Request::parse(&words("a.dwo locations 4 0 0x12 split addr-file=a")).unwrap();
+    let request_bare =
+        Request::parse(&words("a.dwo locations 4 0 0x12 split addr-file=a")).unwrap();
     assert_eq!(answer(&request_bare, &dwo, &bare), Ok(found));
     let wrong = "a: the byte order is not the other file's".to_string();
     assert_eq!(answer(&request, &dwo, &sample(8, true)), Err(wrong));
@@ -177,7 +210,9 @@ fn an_address_table_of_another_file() {
 
 #[test]
 fn what_is_wrong_is_said() {
-    let says = |bytes: &[u8], wrong: &str| assert_eq!(ask(bytes, "ranges 5 0 0"), Err(format!("file: {wrong}")));
+    let says = |bytes: &[u8], wrong: &str| {
+        assert_eq!(ask(bytes, "ranges 5 0 0"), Err(format!("file: {wrong}")))
+    };
     says(b"", "not an ELF file");
     says(b"\x7fELG\x02\x01", "not an ELF file");
     says(b"\x7fELF\x03\x01", "no such ELF class: 3");
@@ -212,12 +247,20 @@ fn what_is_wrong_is_said() {
     says(&changed(62, &[0, 0]), "the name of section 0 is not there");
     let words = |text: &str| Request::parse(&[String::from("file"), text.into()]).map(|_| ());
     assert_eq!(words("lists"), Err(USAGE.into()));
-    assert_eq!(number("0x10000000000000000"), Err("not a number below 2^64: 0x10000000000000000".into()));
+    assert_eq!(
+        number("0x10000000000000000"),
+        Err("not a number below 2^64: 0x10000000000000000".into())
+    );
     assert_eq!(small::<u16>("65536", "version"), Err("too large for a version: 65536".into()));
 }
 
 const REQUESTS: [&str; 6] = [
-    "list", "list split", "ranges 5 12 0x10", "ranges 4 0 2", "locations 5 12 0x20", "locations 4 0 0x12 split",
+    "list",
+    "list split",
+    "ranges 5 12 0x10",
+    "ranges 4 0 2",
+    "locations 5 12 0x20",
+    "locations 4 0 0x12 split",
 ];
 
 /// Each answer is there, whatever it is.

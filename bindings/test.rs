@@ -1,5 +1,5 @@
-//! Each export through the wrapper, on good and on bad input. The expected values are DWARF's and document 01's, worked out
-//! by hand. A test has its export's name; `--list` prints the names.
+//! Each export through the wrapper, on good and on bad input. The expected values are DWARF's and
+//! document 01's, worked out by hand. A test has its export's name; `--list` prints the names.
 
 use std::fmt::Debug;
 use std::process::ExitCode;
@@ -81,7 +81,12 @@ fn main() -> ExitCode {
         test(&mut checks);
     }
     errors(&mut checks);
-    println!("test.rs: {} exports, {} passed, {} failed", TESTS.len(), checks.passed, checks.failed);
+    println!(
+        "test.rs: {} exports, {} passed, {} failed",
+        TESTS.len(),
+        checks.passed,
+        checks.failed
+    );
     if checks.failed == 0 { ExitCode::SUCCESS } else { ExitCode::FAILURE }
 }
 
@@ -93,8 +98,7 @@ const TABLE: &[u8] = &[0x0c, 0, 0, 0, 5, 0, 4, 0, 0x10, 0, 0, 0, 0x20, 0, 0, 0];
 /// The same in the other order.
 const BIG_TABLE: &[u8] = &[0, 0, 0, 0x0c, 0, 5, 4, 0, 0, 0, 0, 0x10, 0, 0, 0, 0x20];
 /// A header of lists with two offsets, 8 and 10, and two lists of one byte.
-const LISTS: &[u8] =
-    &[0x12, 0, 0, 0, 5, 0, 4, 0, 2, 0, 0, 0, 8, 0, 0, 0, 0x0a, 0, 0, 0, 0, 0];
+const LISTS: &[u8] = &[0x12, 0, 0, 0, 5, 0, 4, 0, 2, 0, 0, 0, 8, 0, 0, 0, 0x0a, 0, 0, 0, 0, 0];
 /// Nine bytes of a LEB128 number; the tenth decides.
 const NINE: [u8; 9] = [0x80; 9];
 
@@ -216,8 +220,14 @@ fn initial_length(c: &mut Checks) {
     c.same(length(BIG_TABLE, Big), (Ok((12, Format::Dwarf32)), 12));
     c.same(length(&[0xef, 0xff, 0xff, 0xff], Little), (Ok((0xffff_ffef, Format::Dwarf32)), 0));
     c.same(length(&join(&[&ones, EIGHT]), Big), (Ok((0x0102_0304_0506_0708, Format::Dwarf64)), 0));
-    c.same(length(&[0xf0, 0xff, 0xff, 0xff], Little), (Err(Error::UnknownReservedLength(0xffff_fff0)), 4));
-    c.same(length(&[0xff, 0xff, 0xff, 0xfe], Big), (Err(Error::UnknownReservedLength(0xffff_fffe)), 4));
+    c.same(
+        length(&[0xf0, 0xff, 0xff, 0xff], Little),
+        (Err(Error::UnknownReservedLength(0xffff_fff0)), 4),
+    );
+    c.same(
+        length(&[0xff, 0xff, 0xff, 0xfe], Big),
+        (Err(Error::UnknownReservedLength(0xffff_fffe)), 4),
+    );
     c.same(length(&join(&[&ones, &EIGHT[1..]]), Little), (Err(EOF), 11));
     c.same(length(&ones[1..], Little), (Err(EOF), 3));
     c.same(length(&[], Little), (Err(EOF), 0));
@@ -234,7 +244,8 @@ fn skip(c: &mut Checks) {
 }
 
 fn split(c: &mut Checks) {
-    let part = |bytes, n| read(bytes, Little, |s| s.skip(1).and_then(|_| s.split(n)).map(|p| p.slice()));
+    let part =
+        |bytes, n| read(bytes, Little, |s| s.skip(1).and_then(|_| s.split(n)).map(|p| p.slice()));
     c.same(part(&[1, 2, 3, 4], 2), (Ok(&[2, 3][..]), 1));
     c.same(part(&[1, 2, 3, 4], 0), (Ok(&[][..]), 3));
     c.same(part(&[1, 2, 3, 4], 4), (Err(EOF), 3));
@@ -299,7 +310,8 @@ fn get_address(c: &mut Checks) {
     c.same(DebugAddr::default().get_address(4, DebugAddrBase(0), DebugAddrIndex(0)), Err(EOF));
 }
 
-/// The headers of a section: offset, length, encoding and base of each, up to the second end or refusal.
+/// The headers of a section: offset, length, encoding and base of each, and the refusals, up to
+/// the end.
 fn headers(section: &[u8]) -> Vec<Result<(u64, u64, Encoding, u64)>> {
     let mut walk = DebugAddr::new(section, Little).headers();
     let mut all = Vec::new();
@@ -322,14 +334,19 @@ fn table_next(c: &mut Checks) {
     c.same(headers(&[4, 0, 0, 0, 5, 0, 3, 0]), vec![Err(Error::UnsupportedAddressSize(3))]);
     c.same(headers(&[4, 0, 0, 0, 5, 0, 4, 1]), vec![Err(Error::UnsupportedSegmentSize(1))]);
     c.same(headers(&[3, 0, 0, 0, 5, 0, 4, 0]), vec![Err(EOF)]);
-    c.same(headers(&[0xf0, 0xff, 0xff, 0xff]), vec![Err(Error::UnknownReservedLength(0xffff_fff0))]);
+    c.same(
+        headers(&[0xf0, 0xff, 0xff, 0xff]),
+        vec![Err(Error::UnknownReservedLength(0xffff_fff0))],
+    );
     let mut big = DebugAddr::new(BIG_TABLE, Big).headers();
     c.same(big.next().map(|h| h.map(|h| h.length())), Ok(Some(12)));
     c.same(big.next().map(|h| h.is_none()), Ok(true));
 }
 
 fn table_entry_next(c: &mut Checks) {
-    let entries = |section, endian| DebugAddr::new(section, endian).headers().next().unwrap().unwrap().entries();
+    let entries = |section, endian| {
+        DebugAddr::new(section, endian).headers().next().unwrap().unwrap().entries()
+    };
     for (section, endian) in [(TABLE, Little), (BIG_TABLE, Big)] {
         let mut walk = entries(section, endian);
         c.same(walk.next(), Ok(Some(0x10)));
@@ -350,7 +367,10 @@ fn lists_header(c: &mut Checks) {
         (header.map(|h| (h.encoding, h.offset_entry_count, h.size())), input.slice().to_vec())
     };
     let kept = |bytes: &[u8], e| (Err(e), bytes.to_vec());
-    c.same(parse(&join(&[LISTS, &[9]]), Little), (Ok((encoding(5, 4), 2, 12)), LISTS[12..].to_vec()));
+    c.same(
+        parse(&join(&[LISTS, &[9]]), Little),
+        (Ok((encoding(5, 4), 2, 12)), LISTS[12..].to_vec()),
+    );
     let big = [0, 0, 0, 8, 0, 5, 4, 0, 0, 0, 0, 1];
     c.same(parse(&big, Big), (Ok((encoding(5, 4), 1, 12)), vec![]));
     let wide = join(&[&[0xff; 4], &[9, 0, 0, 0, 0, 0, 0, 0, 5, 0, 8, 0, 3, 0, 0, 0, 0xaa]]);
@@ -432,7 +452,9 @@ fn range_lists(bytes: &[u8], endian: RunTimeEndian) -> RangeLists<'_> {
 fn open_ranges<'a>(bytes: &'a [u8], encoding: Encoding, base_address: u64) -> RngListIter<'a> {
     let table = DebugAddr::new(TABLE, Little);
     let lists = range_lists(bytes, Little);
-    lists.ranges(RangeListsOffset(0), encoding, base_address, &table, DebugAddrBase(8)).expect("an open list")
+    lists
+        .ranges(RangeListsOffset(0), encoding, base_address, &table, DebugAddrBase(8))
+        .expect("an open list")
 }
 
 /// What a walk hands out up to its end, which stays.
@@ -447,7 +469,13 @@ fn range_open(c: &mut Checks) {
     let open = |bytes, version, size, offset| {
         let lists = range_lists(bytes, Little);
         let table = DebugAddr::default();
-        let walk = lists.ranges(RangeListsOffset(offset), encoding(version, size), 0, &table, DebugAddrBase(0));
+        let walk = lists.ranges(
+            RangeListsOffset(offset),
+            encoding(version, size),
+            0,
+            &table,
+            DebugAddrBase(0),
+        );
         walk.and_then(|mut walk| walk.next())
     };
     for version in [2, 4, 5, 6] {
@@ -460,9 +488,21 @@ fn range_open(c: &mut Checks) {
     let raw = range_lists(&[0], Little).raw_ranges(RangeListsOffset(2), encoding(5, 4));
     c.same(raw.map(|_| ()), Err(EOF));
     let apart = RangeLists::new(DebugRanges::new(&[1, 2, 0, 0], Little), DebugRngLists::default());
-    let walk = apart.ranges(RangeListsOffset(1), encoding(5, 1), 0, &DebugAddr::default(), DebugAddrBase(0));
+    let walk = apart.ranges(
+        RangeListsOffset(1),
+        encoding(5, 1),
+        0,
+        &DebugAddr::default(),
+        DebugAddrBase(0),
+    );
     c.same(walk.map(|_| ()), Err(EOF));
-    let walk = apart.ranges(RangeListsOffset(0), encoding(4, 1), 0, &DebugAddr::default(), DebugAddrBase(0));
+    let walk = apart.ranges(
+        RangeListsOffset(0),
+        encoding(4, 1),
+        0,
+        &DebugAddr::default(),
+        DebugAddrBase(0),
+    );
     c.same(walk.and_then(|mut walk| walk.next()), Ok(Some(at(1, 2))));
     c.same((apart.debug_ranges().reader().len(), apart.debug_rnglists().reader().len()), (4, 0));
 }
@@ -494,12 +534,19 @@ fn range_next(c: &mut Checks) {
     c.same(ranges(&too_far, eight, 0), vec![Err(Error::UnsupportedOffset), Ok(at(1, 2))]);
     c.same(ranges(&[8, 4, 1, 2], five, 0), vec![Err(Error::UnknownRangeListsEntry(8))]);
     c.same(ranges(&[6, 0x10, 0], five, 0), vec![Err(EOF)]);
-    c.same(ranges(&join(&[&[4], &NINE, &[2], &[0; 9]]), five, 0), vec![Err(Error::BadUnsignedLeb128)]);
+    c.same(
+        ranges(&join(&[&[4], &NINE, &[2], &[0; 9]]), five, 0),
+        vec![Err(Error::BadUnsignedLeb128)],
+    );
     c.same(ranges(&[], five, 0), vec![]);
     let big = range_lists(&[3, 1, 8, 6, 0, 0, 0, 0x10, 0, 0, 0, 0x20, 0], Big);
     let table = DebugAddr::new(BIG_TABLE, Big);
-    let mut walk = big.ranges(RangeListsOffset(0), five, 0, &table, DebugAddrBase(8)).expect("an open list");
-    c.same((walk.next(), walk.next(), walk.next()), (Ok(Some(at(0x20, 0x28))), Ok(Some(at(0x10, 0x20))), Ok(None)));
+    let mut walk =
+        big.ranges(RangeListsOffset(0), five, 0, &table, DebugAddrBase(8)).expect("an open list");
+    c.same(
+        (walk.next(), walk.next(), walk.next()),
+        (Ok(Some(at(0x20, 0x28))), Ok(Some(at(0x10, 0x20))), Ok(None)),
+    );
 }
 
 /// One entry of each kind, size 1, and the end mark.
@@ -530,15 +577,22 @@ fn range_next_raw(c: &mut Checks) {
     let mut walk = open_ranges(RANGE_KINDS, encoding(5, 1), 0);
     let places: Vec<u64> = (0..9).map(|_| walk.next_raw().map_or(0, |_| walk.place())).collect();
     c.same(places, vec![2, 5, 8, 11, 13, 16, 19, 21, 21]);
-    let mut walk = range_lists(RANGE_KINDS, Little).raw_ranges(RangeListsOffset(0), encoding(5, 1)).unwrap();
+    let mut walk =
+        range_lists(RANGE_KINDS, Little).raw_ranges(RangeListsOffset(0), encoding(5, 1)).unwrap();
     c.same(std::iter::from_fn(|| walk.next().transpose()).collect::<Vec<_>>(), kinds);
     let bare = [0xff, 0x20, 3, 5, 0, 0, 1, 2];
     let pair = AddressOrOffsetPair { begin: 3, end: 5 };
     c.same(raw(&bare, encoding(4, 1)), (vec![Ok(BaseAddress { addr: 0x20 }), Ok(pair)], Ok(None)));
     c.same(raw(&[3, 5, 0], encoding(4, 1)), (vec![Ok(pair), Err(EOF)], Ok(None)));
     c.same(raw(&[8, 0], encoding(5, 1)), (vec![Err(Error::UnknownRangeListsEntry(8))], Ok(None)));
-    c.same(raw(&[0xff], encoding(5, 1)), (vec![Err(Error::UnknownRangeListsEntry(0xff))], Ok(None)));
-    c.same(raw(&join(&[&[4], &NINE, &[2]]), encoding(5, 1)), (vec![Err(Error::BadUnsignedLeb128)], Ok(None)));
+    c.same(
+        raw(&[0xff], encoding(5, 1)),
+        (vec![Err(Error::UnknownRangeListsEntry(0xff))], Ok(None)),
+    );
+    c.same(
+        raw(&join(&[&[4], &NINE, &[2]]), encoding(5, 1)),
+        (vec![Err(Error::BadUnsignedLeb128)], Ok(None)),
+    );
     c.same(raw(&[], encoding(5, 1)), (vec![], Ok(None)));
 }
 
@@ -554,9 +608,15 @@ fn range_convert_raw(c: &mut Checks) {
     c.same(walk.convert_raw(BaseAddressx { addr: index(1) }), Ok(None));
     c.same(walk.convert_raw(OffsetPair { begin: 1, end: 2 }), Ok(Some(at(0x21, 0x22))));
     c.same(walk.convert_raw(BaseAddressx { addr: index(2) }), Err(EOF));
-    c.same(walk.convert_raw(StartxEndx { begin: index(0), end: index(1) }), Ok(Some(at(0x10, 0x20))));
+    c.same(
+        walk.convert_raw(StartxEndx { begin: index(0), end: index(1) }),
+        Ok(Some(at(0x10, 0x20))),
+    );
     c.same(walk.convert_raw(StartxEndx { begin: index(1), end: index(0) }), Ok(None));
-    c.same(walk.convert_raw(StartxEndx { begin: index(u64::MAX), end: index(0) }), Err(Error::UnsupportedOffset));
+    c.same(
+        walk.convert_raw(StartxEndx { begin: index(u64::MAX), end: index(0) }),
+        Err(Error::UnsupportedOffset),
+    );
     c.same(walk.convert_raw(StartxLength { begin: index(1), length: 5 }), Ok(Some(at(0x20, 0x25))));
     c.same(walk.convert_raw(StartEnd { begin: 5, end: 7 }), Ok(Some(at(5, 7))));
     c.same(walk.convert_raw(StartEnd { begin: 0xffff_fffe, end: u64::MAX }), Ok(None));
@@ -589,7 +649,8 @@ fn range_lookup(c: &mut Checks) {
     let got = big.lookup(RangeListsOffset(0), encoding(5, 4), 0, &table, DebugAddrBase(8), 0x10);
     c.same(got, Ok(Some(at(0x10, 0x18))));
     let bare = range_lists(&[1, 3, 0, 0], Little);
-    let got = bare.lookup(RangeListsOffset(0), encoding(4, 1), 0x40, &table, DebugAddrBase(8), 0x42);
+    let got =
+        bare.lookup(RangeListsOffset(0), encoding(4, 1), 0x40, &table, DebugAddrBase(8), 0x42);
     c.same(got, Ok(Some(at(0x41, 0x43))));
 }
 
@@ -600,7 +661,12 @@ fn location_lists(bytes: &[u8], endian: RunTimeEndian) -> LocationLists<'_> {
     LocationLists::new(DebugLoc::new(bytes, endian), DebugLocLists::new(bytes, endian))
 }
 
-fn open_locations<'a>(bytes: &'a [u8], encoding: Encoding, split: bool, base_address: u64) -> LocListIter<'a> {
+fn open_locations<'a>(
+    bytes: &'a [u8],
+    encoding: Encoding,
+    split: bool,
+    base_address: u64,
+) -> LocListIter<'a> {
     let (lists, table) = (location_lists(bytes, Little), DebugAddr::new(TABLE, Little));
     let (offset, base) = (LocationListsOffset(0), DebugAddrBase(8));
     let walk = if split {
@@ -619,7 +685,12 @@ fn told<'a>(l: LocationListEntry<'a>) -> Told<'a> {
 }
 
 /// What a walk hands out up to its end, which stays.
-fn locations<'a>(bytes: &'a [u8], encoding: Encoding, split: bool, base: u64) -> Vec<Result<Told<'a>>> {
+fn locations<'a>(
+    bytes: &'a [u8],
+    encoding: Encoding,
+    split: bool,
+    base: u64,
+) -> Vec<Result<Told<'a>>> {
     let mut walk = open_locations(bytes, encoding, split, base);
     let all = std::iter::from_fn(|| walk.next().transpose()).map(|r| r.map(told)).collect();
     assert_eq!(walk.next(), Ok(None));
@@ -629,7 +700,8 @@ fn locations<'a>(bytes: &'a [u8], encoding: Encoding, split: bool, base: u64) ->
 fn location_open(c: &mut Checks) {
     let open = |bytes, version, size, offset, split: bool| {
         let (lists, table) = (location_lists(bytes, Little), DebugAddr::default());
-        let (offset, encoding, base) = (LocationListsOffset(offset), encoding(version, size), DebugAddrBase(0));
+        let (offset, encoding, base) =
+            (LocationListsOffset(offset), encoding(version, size), DebugAddrBase(0));
         let walk = match split {
             true => lists.locations_dwo(offset, encoding, 0, &table, base),
             false => lists.locations(offset, encoding, 0, &table, base),
@@ -656,10 +728,19 @@ fn location_next(c: &mut Checks) {
     c.same(locations(&gnu, four, true, 0), vec![Ok((at(0x10, 0x18), x, 8))]);
     c.same(locations(&[4, 0, 1, 1, 0, 0x50, 0], four, true, 0), vec![Ok((at(0, 1), x, 5))]);
     c.same(locations(&[3, 0, 8, 1, 0x50, 0], five, true, 0), vec![Ok((at(0x10, 0x18), x, 4))]);
-    c.same(locations(&[3, 2, 8, 0, 3, 0, 8, 1, 0x50, 0], five, false, 0), vec![Err(EOF), Ok((at(0x10, 0x18), x, 8))]);
+    c.same(
+        locations(&[3, 2, 8, 0, 3, 0, 8, 1, 0x50, 0], five, false, 0),
+        vec![Err(EOF), Ok((at(0x10, 0x18), x, 8))],
+    );
     c.same(locations(&[2, 0, 1, 1, 0x50, 0], five, false, 0), vec![Ok((at(0x10, 0x20), x, 4))]);
-    c.same(locations(&[1, 1, 4, 1, 2, 1, 0x50, 0], five, false, 0), vec![Ok((at(0x21, 0x22), x, 6))]);
-    c.same(locations(&[6, 0, 1, 0, 0, 4, 1, 2, 1, 0x50, 0], five, false, 0), vec![Ok((at(0x101, 0x102), x, 9))]);
+    c.same(
+        locations(&[1, 1, 4, 1, 2, 1, 0x50, 0], five, false, 0),
+        vec![Ok((at(0x21, 0x22), x, 6))],
+    );
+    c.same(
+        locations(&[6, 0, 1, 0, 0, 4, 1, 2, 1, 0x50, 0], five, false, 0),
+        vec![Ok((at(0x101, 0x102), x, 9))],
+    );
     c.same(locations(&[7, 1, 2, 1, 0x50, 0], encoding(5, 1), false, 0), vec![Ok((at(1, 2), x, 4))]);
     c.same(locations(&[8, 1, 2, 1, 0x50, 0], encoding(5, 1), false, 0), vec![Ok((at(1, 3), x, 4))]);
     let bare = [0xff, 0x20, 1, 3, 2, 0, 0x50, 0x51, 0, 0, 7];
@@ -668,7 +749,10 @@ fn location_next(c: &mut Checks) {
     c.same(locations(&[4, 0, 1, 0, 0], five, false, 0), vec![Ok((at(0, 1), &[], 4))]);
     c.same(locations(&[4, 0, 1, 2, 0x50], five, false, 0), vec![Err(EOF)]);
     c.same(locations(&join(&[&[5], &NINE, &[1]]), five, false, 0), vec![Err(EOF)]);
-    c.same(locations(&join(&[&[5], &NINE, &[2]]), five, false, 0), vec![Err(Error::BadUnsignedLeb128)]);
+    c.same(
+        locations(&join(&[&[5], &NINE, &[2]]), five, false, 0),
+        vec![Err(Error::BadUnsignedLeb128)],
+    );
     c.same(locations(&[9, 0], five, false, 0), vec![Err(Error::UnknownLocListsEntry(9))]);
     c.same(locations(&[0xff], four, true, 0), vec![Err(Error::UnknownLocListsEntry(0xff))]);
     let too_far = join(&[&[3], &INDEX_2_61, &[0, 0]]);
@@ -678,17 +762,22 @@ fn location_next(c: &mut Checks) {
 
 /// One entry of each kind, size 1, and the end mark.
 const LOCATION_KINDS: &[u8] = &[
-    1, 9, 2, 8, 7, 0, 3, 6, 5, 1, 0x50, 4, 4, 5, 0, 5, 2, 0x51, 0x52, 6, 0x33, 7, 2, 3, 0, 8, 1, 2, 0, 0, 9,
+    1, 9, 2, 8, 7, 0, 3, 6, 5, 1, 0x50, 4, 4, 5, 0, 5, 2, 0x51, 0x52, 6, 0x33, 7, 2, 3, 0, 8, 1, 2,
+    0, 0, 9,
 ];
 
 fn location_next_raw(c: &mut Checks) {
     use RawLocListEntry::*;
     let bytes_of = |raw: Result<RawLocListEntry<'static>>| {
         raw.map(|raw| match raw {
-            AddressOrOffsetPair { begin, end, data } => (0, begin, end, data.bytes(), data.offset()),
+            AddressOrOffsetPair { begin, end, data } => {
+                (0, begin, end, data.bytes(), data.offset())
+            }
             BaseAddressx { addr } => (1, addr.0, 0, &[][..], 0),
             StartxEndx { begin, end, data } => (2, begin.0, end.0, data.bytes(), data.offset()),
-            StartxLength { begin, length, data } => (3, begin.0, length, data.bytes(), data.offset()),
+            StartxLength { begin, length, data } => {
+                (3, begin.0, length, data.bytes(), data.offset())
+            }
             OffsetPair { begin, end, data } => (4, begin, end, data.bytes(), data.offset()),
             DefaultLocation { data } => (5, 0, 0, data.bytes(), data.offset()),
             BaseAddress { addr } => (6, addr, 0, &[][..], 0),
@@ -698,7 +787,8 @@ fn location_next_raw(c: &mut Checks) {
     };
     let raw = |bytes, encoding, split| {
         let mut walk = open_locations(bytes, encoding, split, 0);
-        let all: Vec<_> = std::iter::from_fn(|| walk.next_raw().transpose()).map(bytes_of).collect();
+        let all: Vec<_> =
+            std::iter::from_fn(|| walk.next_raw().transpose()).map(bytes_of).collect();
         assert_eq!(walk.next_raw(), Ok(None));
         all
     };
@@ -725,7 +815,10 @@ fn location_next_raw(c: &mut Checks) {
     c.same(walk.next().map(|raw| raw.map(Ok).map(bytes_of)), Ok(Some(Ok((3, 1, 2, none, 8)))));
     c.same(walk.next(), Ok(None));
     let bare = &[0xff, 0x20, 3, 5, 1, 0, 0x50, 0, 0, 1];
-    c.same(raw(bare, encoding(4, 1), false), vec![Ok((6, 0x20, 0, none, 0)), Ok((0, 3, 5, &[0x50], 6))]);
+    c.same(
+        raw(bare, encoding(4, 1), false),
+        vec![Ok((6, 0x20, 0, none, 0)), Ok((0, 3, 5, &[0x50], 6))],
+    );
     c.same(raw(&[3, 5, 1], encoding(4, 1), false), vec![Err(EOF)]);
     c.same(raw(&[9], encoding(5, 1), false), vec![Err(Error::UnknownLocListsEntry(9))]);
     c.same(raw(&[], encoding(5, 1), true), vec![]);
@@ -743,7 +836,10 @@ fn location_convert_raw(c: &mut Checks) {
     c.same(walk.convert_raw(OffsetPair { begin: 1, end: 2, data }), found(0x201, 0x202));
     c.same(walk.convert_raw(BaseAddressx { addr: index(1) }), Ok(None));
     c.same(walk.convert_raw(BaseAddressx { addr: index(7) }), Err(EOF));
-    c.same(walk.convert_raw(StartxEndx { begin: index(0), end: index(1), data }), found(0x10, 0x20));
+    c.same(
+        walk.convert_raw(StartxEndx { begin: index(0), end: index(1), data }),
+        found(0x10, 0x20),
+    );
     c.same(walk.convert_raw(StartxEndx { begin: index(0), end: index(2), data }), Err(EOF));
     c.same(walk.convert_raw(StartxLength { begin: index(1), length: 5, data }), found(0x20, 0x25));
     c.same(
@@ -764,7 +860,9 @@ fn location_lookup(c: &mut Checks) {
     let lookup = |end, size, offset, address| {
         let (lists, table) = (location_lists(&bytes[..end], Little), DebugAddr::new(TABLE, Little));
         let (offset, main) = (LocationListsOffset(offset), DwarfFileType::Main);
-        lists.lookup(offset, encoding(5, size), main, 0x100, &table, DebugAddrBase(8), address).map(|l| l.map(told))
+        lists
+            .lookup(offset, encoding(5, size), main, 0x100, &table, DebugAddrBase(8), address)
+            .map(|l| l.map(told))
     };
     c.same(lookup(13, 4, 0, 0x17), Ok(Some((at(0x10, 0x18), &bytes[7..8], 7))));
     c.same(lookup(14, 4, 0, 0x101), Ok(Some((at(0x101, 0x102), &bytes[12..13], 12))));
@@ -804,7 +902,8 @@ const TOUCHING_SHEET: &[u8] = &[1, 0, 8, 0, 0x10, 0, 0, 0, 0, 0, 0, 0, 0x30, 0, 
 fn range_coverage(c: &mut Checks) {
     let cover = |bytes: &[u8], size, offset| {
         let table = DebugAddr::new(TABLE, Little);
-        let lists = RangeLists::new(DebugRanges::new(bytes, Little), DebugRngLists::new(bytes, Little));
+        let lists =
+            RangeLists::new(DebugRanges::new(bytes, Little), DebugRngLists::new(bytes, Little));
         is(lists.coverage(RangeListsOffset(offset), encoding(5, size), 0, &table, DebugAddrBase(8)))
     };
     c.same(cover(TOUCHING, 4, 0), Ok(vec![at(0x10, 0x30)]));
@@ -828,11 +927,22 @@ fn range_coverage(c: &mut Checks) {
 fn location_coverage(c: &mut Checks) {
     let cover = |bytes: &[u8], version, file| {
         let table = DebugAddr::new(TABLE, Little);
-        let lists = LocationLists::new(DebugLoc::new(bytes, Little), DebugLocLists::new(bytes, Little));
-        is(lists.coverage(LocationListsOffset(0), encoding(version, 4), file, 0, &table, DebugAddrBase(8)))
+        let lists =
+            LocationLists::new(DebugLoc::new(bytes, Little), DebugLocLists::new(bytes, Little));
+        is(lists.coverage(
+            LocationListsOffset(0),
+            encoding(version, 4),
+            file,
+            0,
+            &table,
+            DebugAddrBase(8),
+        ))
     };
     let (main, dwo) = (DwarfFileType::Main, DwarfFileType::Dwo);
-    c.same(cover(&[4, 1, 2, 1, 0x50, 4, 2, 4, 1, 0x51, 4, 6, 7, 0, 0], 5, main), Ok(vec![at(1, 4), at(6, 7)]));
+    c.same(
+        cover(&[4, 1, 2, 1, 0x50, 4, 2, 4, 1, 0x51, 4, 6, 7, 0, 0], 5, main),
+        Ok(vec![at(1, 4), at(6, 7)]),
+    );
     c.same(cover(&[5, 0, 0], 5, main), Ok(vec![at(0, u64::MAX)]));
     c.same(cover(&[3, 0, 8, 0, 0, 0, 1, 0, 0x50, 0], 4, dwo), Ok(vec![at(0x10, 0x18)]));
     c.same(cover(&[], 4, main), Ok(vec![]));
@@ -887,10 +997,7 @@ fn coverage_from_sheet(c: &mut Checks) {
 }
 
 /// What a call writes into an output of a length, and all of the output after it.
-fn into(
-    len: usize,
-    call: impl FnOnce(&mut [u8]) -> Result<usize>,
-) -> (Result<usize>, Vec<u8>) {
+fn into(len: usize, call: impl FnOnce(&mut [u8]) -> Result<usize>) -> (Result<usize>, Vec<u8>) {
     let mut output = vec![0xee; len];
     let wrote = call(&mut output);
     (wrote, output)
@@ -910,7 +1017,8 @@ const UNLAWFUL: &[&[(u64, u64)]] =
     &[&[(2, 2)], &[(3, 2)], &[(0, 2), (2, 4)], &[(4, 5), (0, 1)], &[(u64::MAX - 1, u64::MAX)]];
 
 fn sheet(c: &mut Checks) {
-    let write = |ranges, len| into(len, |o| coverage(ranges).sheet(o).map(|sheet| sheet.bytes().len()));
+    let write =
+        |ranges, len| into(len, |o| coverage(ranges).sheet(o).map(|sheet| sheet.bytes().len()));
     c.same(write(&[(0x10, 0x30)], 20), (Ok(20), TOUCHING_SHEET.to_vec()));
     c.same(write(&[(0x10, 0x30)], 22), (Ok(20), join(&[TOUCHING_SHEET, &[0xee; 2]])));
     c.same(write(&[], 4), (Ok(4), vec![0, 0, 8, 0]));
@@ -929,7 +1037,8 @@ fn sheet(c: &mut Checks) {
 }
 
 fn canonical(c: &mut Checks) {
-    let write = |ranges, len| into(len, |o| coverage(ranges).canonical(o).map(|list| list.bytes().len()));
+    let write =
+        |ranges, len| into(len, |o| coverage(ranges).canonical(o).map(|list| list.bytes().len()));
     c.same(write(&[(0x10, 0x30)], 11), (Ok(11), TOUCHING_CANONICAL.to_vec()));
     c.same(write(&[(0x10, 0x30)], 12), (Ok(11), join(&[TOUCHING_CANONICAL, &[0xee]])));
     c.same(write(&[], 1), (Ok(1), vec![0]));
@@ -949,8 +1058,11 @@ fn range_canonical(c: &mut Checks) {
     let write = |bytes: &[u8], size, offset, len| {
         let table = DebugAddr::new(TABLE, Little);
         let lists = RangeLists::new(DebugRanges::default(), DebugRngLists::new(bytes, Little));
-        let (offset, encoding, base) = (RangeListsOffset(offset), encoding(5, size), DebugAddrBase(8));
-        into(len, |o| lists.canonical(offset, encoding, 0, &table, base, o).map(|list| list.bytes().len()))
+        let (offset, encoding, base) =
+            (RangeListsOffset(offset), encoding(5, size), DebugAddrBase(8));
+        into(len, |o| {
+            lists.canonical(offset, encoding, 0, &table, base, o).map(|list| list.bytes().len())
+        })
     };
     c.same(write(TOUCHING, 4, 0, 12), (Ok(11), join(&[TOUCHING_CANONICAL, &[0xee]])));
     c.same(write(&[3, 0, 0x20, 0], 4, 0, 11), (Ok(11), TOUCHING_CANONICAL.to_vec()));
@@ -958,7 +1070,10 @@ fn range_canonical(c: &mut Checks) {
     c.same(write(TOUCHING, 4, 0, 10), untouched(10, Error::NoSpace));
     c.same(write(&[0], 4, 0, 0), untouched(0, Error::NoSpace));
     c.same(write(&[8], 4, 0, 0), untouched(0, Error::UnknownRangeListsEntry(8)));
-    c.same(write(&join(&[&TOUCHING[..12], &[8]]), 4, 0, 16), untouched(16, Error::UnknownRangeListsEntry(8)));
+    c.same(
+        write(&join(&[&TOUCHING[..12], &[8]]), 4, 0, 16),
+        untouched(16, Error::UnknownRangeListsEntry(8)),
+    );
     c.same(write(&apart(1025), 4, 0, 16), untouched(16, Error::TooManyRanges));
     c.same(write(TOUCHING, 4, u64::MAX, 16), untouched(16, EOF));
     c.same(write(TOUCHING, 0, u64::MAX, 16), untouched(16, Error::UnsupportedAddressSize(0)));
@@ -969,9 +1084,15 @@ fn range_canonical(c: &mut Checks) {
 fn location_canonical(c: &mut Checks) {
     let write = |bytes: &[u8], version, file, offset, len| {
         let table = DebugAddr::new(TABLE, Little);
-        let lists = LocationLists::new(DebugLoc::new(bytes, Little), DebugLocLists::new(bytes, Little));
-        let (offset, encoding, base) = (LocationListsOffset(offset), encoding(version, 4), DebugAddrBase(8));
-        into(len, |o| lists.canonical(offset, encoding, file, 0, &table, base, o).map(|list| list.bytes().len()))
+        let lists =
+            LocationLists::new(DebugLoc::new(bytes, Little), DebugLocLists::new(bytes, Little));
+        let (offset, encoding, base) =
+            (LocationListsOffset(offset), encoding(version, 4), DebugAddrBase(8));
+        into(len, |o| {
+            lists
+                .canonical(offset, encoding, file, 0, &table, base, o)
+                .map(|list| list.bytes().len())
+        })
     };
     let (main, dwo) = (DwarfFileType::Main, DwarfFileType::Dwo);
     let gnu = [3, 0, 0x20, 0, 0, 0, 1, 0, 0x50, 0];

@@ -161,7 +161,7 @@ uint64_t yz_location_default_base(bool dwarf64, uint16_t version, bool split);
 uint64_t yz_range_open(const uint8_t *section, size_t section_len, uint64_t offset, uint8_t address_size, bool dwarf64,
                        uint16_t version, uint64_t base_address, yz_words4 *out);
 
-/* The next range: w[2] begin, w[3] end. Refused: 6, 1, 2, 3; 9 by the address table. */
+/* The next range: w[2] begin, w[3] end. Refused: 6, 1, 2, 3; 1 and 9 by the address table. */
 uint64_t yz_range_next(const uint8_t *section, size_t section_len, const uint8_t *debug_addr, size_t debug_addr_len,
                        uint64_t debug_addr_base, uint8_t address_size, bool dwarf64, uint16_t version, bool big_endian,
                        yz_words4 *io);
@@ -180,7 +180,7 @@ uint64_t yz_location_open(const uint8_t *section, size_t section_len, uint64_t o
                           bool dwarf64, uint16_t version, uint64_t base_address, yz_words4 *out);
 
 /* The next location: w[2] begin, w[3] end, w[4] and w[5] offset and length of the expression in the section.
- * Refused: 6, 1, 2, 4; 9 by the address table. */
+ * Refused: 6, 1, 2, 4; 1 and 9 by the address table. */
 uint64_t yz_location_next(const uint8_t *section, size_t section_len, const uint8_t *debug_addr, size_t debug_addr_len,
                           uint64_t debug_addr_base, uint8_t address_size, bool dwarf64, uint16_t version,
                           bool big_endian, bool split, yz_words8 *io);

@@ -1,0 +1,158 @@
+//! Coverages, sheets and canonical lists.
+
+use super::error::done;
+use super::ffi;
+use super::reader::part;
+use super::{Error, Range, Result};
+use core::fmt;
+
+/// How many ranges a [`Coverage`] holds at most.
+pub const LIMIT: usize = 1024;
+/// A sheet has at most this many bytes.
+pub const SHEET_MAX: usize = 4 + 16 * LIMIT;
+/// A canonical list has at most this many bytes.
+pub const CANONICAL_MAX: usize = 19 * LIMIT + 1;
+
+/// The addresses that a list covers, as ranges that ascend and never overlap or touch.
+#[derive(Clone, PartialEq, Eq)]
+pub struct Coverage {
+    n: usize,
+    begins: ffi::Bounds,
+    ends: ffi::Bounds,
+}
+
+impl Coverage {
+    pub(super) fn made(
+        call: impl FnOnce(&mut ffi::Bounds, &mut ffi::Bounds, &mut ffi::Four) -> u64,
+    ) -> Result<Coverage> {
+        let mut coverage = Coverage { n: 0, begins: [0; LIMIT], ends: [0; LIMIT] };
+        let mut out = [0; 4];
+        let code = call(&mut coverage.begins, &mut coverage.ends, &mut out);
+        coverage.n = done(code, out)?[0] as usize;
+        Ok(coverage)
+    }
+
+    /// Ranges taken as they are; more than [`LIMIT`] are refused. Whether they make a coverage is
+    /// seen when a sheet or a canonical list is made of them: those refuse them then.
+    pub fn from_ranges(ranges: &[Range]) -> Result<Coverage> {
+        if LIMIT < ranges.len() {
+            return Err(Error::BadSheet);
+        }
+        let mut coverage = Coverage { n: ranges.len(), begins: [0; LIMIT], ends: [0; LIMIT] };
+        for (i, range) in ranges.iter().enumerate() {
+            coverage.begins[i] = range.begin;
+            coverage.ends[i] = range.end;
+        }
+        Ok(coverage)
+    }
+
+    /// How many ranges there are.
+    pub fn len(&self) -> usize {
+        self.n
+    }
+
+    /// Whether no address is covered.
+    pub fn is_empty(&self) -> bool {
+        self.n == 0
+    }
+
+    /// The ranges.
+    pub fn ranges(&self) -> impl Iterator<Item = Range> + '_ {
+        let bounds = self.begins.iter().zip(&self.ends).take(self.n);
+        bounds.map(|(&begin, &end)| Range { begin, end })
+    }
+
+    /// The sheet, written into an output; [`SHEET_MAX`] bytes are always enough.
+    pub fn sheet<'o>(&self, output: &'o mut [u8]) -> Result<Sheet<'o>> {
+        // SAFETY: pointer and length are of one slice, which is lent alone.
+        let bytes = filled(output, |o, m, out| unsafe {
+            ffi::yz_sheet(self.n as u64, &self.begins, &self.ends, o, m, out)
+        })?;
+        Ok(Sheet { bytes })
+    }
+
+    /// The canonical list, written into an output; [`CANONICAL_MAX`] bytes are always enough.
+    pub fn canonical<'o>(&self, output: &'o mut [u8]) -> Result<CanonicalList<'o>> {
+        // SAFETY: pointer and length are of one slice, which is lent alone.
+        let bytes = filled(output, |o, m, out| unsafe {
+            ffi::yz_canonical(self.n as u64, &self.begins, &self.ends, o, m, out)
+        })?;
+        Ok(CanonicalList { bytes })
+    }
+}
+
+impl fmt::Debug for Coverage {
+    fn fmt(&self, f: &mut fmt::Formatter<'_>) -> fmt::Result {
+        f.debug_list().entries(self.ranges()).finish()
+    }
+}
+
+/// The front of an output that a call has filled.
+pub(super) fn filled(
+    output: &mut [u8],
+    call: impl FnOnce(*mut u8, usize, &mut ffi::Four) -> u64,
+) -> Result<&[u8]> {
+    let mut out = [0; 4];
+    let code = call(output.as_mut_ptr(), output.len(), &mut out);
+    let len = done(code, out)?[0];
+    Ok(part(output, 0, len))
+}
+
+/// The bytes of a sheet: count, address width 8, all begins, all ends, little-endian.
+#[derive(Debug, Clone, Copy, PartialEq, Eq, Hash)]
+pub struct Sheet<'a> {
+    bytes: &'a [u8],
+}
+
+impl<'a> Sheet<'a> {
+    /// Bytes that may be a sheet.
+    pub fn new(bytes: &'a [u8]) -> Sheet<'a> {
+        Sheet { bytes }
+    }
+
+    /// The bytes.
+    pub fn bytes(&self) -> &'a [u8] {
+        self.bytes
+    }
+
+    /// The coverage that the sheet holds.
+    pub fn coverage(&self) -> Result<Coverage> {
+        // SAFETY: pointer and length are of one slice.
+        Coverage::made(|begins, ends, out| unsafe {
+            ffi::yz_coverage_from_sheet(self.bytes.as_ptr(), self.bytes.len(), begins, ends, out)
+        })
+    }
+}
+
+/// The bytes of a canonical list: two lists have the same ones exactly when they cover the same
+/// addresses.
+#[derive(Debug, Clone, Copy, PartialEq, Eq, Hash)]
+pub struct CanonicalList<'a> {
+    bytes: &'a [u8],
+}
+
+impl<'a> CanonicalList<'a> {
+    /// Bytes that may be a canonical list.
+    pub fn new(bytes: &'a [u8]) -> CanonicalList<'a> {
+        CanonicalList { bytes }
+    }
+
+    /// The bytes.
+    pub fn bytes(&self) -> &'a [u8] {
+        self.bytes
+    }
+
+    /// The coverage that the list tells, read as a section of its own.
+    pub fn coverage(&self) -> Result<Coverage> {
+        // SAFETY: pointer and length are of one slice.
+        Coverage::made(|begins, ends, out| unsafe {
+            ffi::yz_coverage_from_canonical(
+                self.bytes.as_ptr(),
+                self.bytes.len(),
+                begins,
+                ends,
+                out,
+            )
+        })
+    }
+}

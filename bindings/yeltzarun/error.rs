@@ -1,0 +1,134 @@
+//! Refusals, and answers by their result code.
+
+use core::fmt;
+
+/// What a call gives: its answer or a refusal.
+pub type Result<T> = core::result::Result<T, Error>;
+
+/// A refusal.
+#[derive(Debug, Clone, Copy, PartialEq, Eq, Hash)]
+pub enum Error {
+    /// Bytes are missing.
+    UnexpectedEof,
+    /// The tenth byte of a LEB128 number is above 01.
+    BadUnsignedLeb128,
+    /// A range list entry's kind is above 7.
+    UnknownRangeListsEntry(u64),
+    /// A location list entry's kind is above 8.
+    UnknownLocListsEntry(u64),
+    /// A header's version is not 5.
+    UnknownVersion(u64),
+    /// An address size is not 1, 2, 4 or 8.
+    UnsupportedAddressSize(u64),
+    /// A segment selector size is not 0.
+    UnsupportedSegmentSize(u64),
+    /// An initial length lies from 0xfffffff0 to 0xfffffffe.
+    UnknownReservedLength(u64),
+    /// A product or a sum is at or above 2^64.
+    UnsupportedOffset,
+    /// A list yields more than 1,024 ranges.
+    TooManyRanges,
+    /// The output is shorter than the result.
+    NoSpace,
+    /// The bytes or the ranges make no lawful sheet.
+    BadSheet,
+}
+
+impl Error {
+    fn from_words(number: u64, value: u64) -> Error {
+        match number {
+            1 => Error::UnexpectedEof,
+            2 => Error::BadUnsignedLeb128,
+            3 => Error::UnknownRangeListsEntry(value),
+            4 => Error::UnknownLocListsEntry(value),
+            5 => Error::UnknownVersion(value),
+            6 => Error::UnsupportedAddressSize(value),
+            7 => Error::UnsupportedSegmentSize(value),
+            8 => Error::UnknownReservedLength(value),
+            9 => Error::UnsupportedOffset,
+            10 => Error::TooManyRanges,
+            11 => Error::NoSpace,
+            12 => Error::BadSheet,
+            _ => unreachable!("the library has no refusal {number}"),
+        }
+    }
+
+    /// The refusal's number, 1 to 12.
+    pub fn number(self) -> u64 {
+        match self {
+            Error::UnexpectedEof => 1,
+            Error::BadUnsignedLeb128 => 2,
+            Error::UnknownRangeListsEntry(_) => 3,
+            Error::UnknownLocListsEntry(_) => 4,
+            Error::UnknownVersion(_) => 5,
+            Error::UnsupportedAddressSize(_) => 6,
+            Error::UnsupportedSegmentSize(_) => 7,
+            Error::UnknownReservedLength(_) => 8,
+            Error::UnsupportedOffset => 9,
+            Error::TooManyRanges => 10,
+            Error::NoSpace => 11,
+            Error::BadSheet => 12,
+        }
+    }
+
+    /// The refusal's value, where it has one.
+    pub fn value(self) -> Option<u64> {
+        match self {
+            Error::UnknownRangeListsEntry(value)
+            | Error::UnknownLocListsEntry(value)
+            | Error::UnknownVersion(value)
+            | Error::UnsupportedAddressSize(value)
+            | Error::UnsupportedSegmentSize(value)
+            | Error::UnknownReservedLength(value) => Some(value),
+            _ => None,
+        }
+    }
+
+    /// The refusal's name.
+    pub fn name(self) -> &'static str {
+        match self {
+            Error::UnexpectedEof => "UnexpectedEof",
+            Error::BadUnsignedLeb128 => "BadUnsignedLeb128",
+            Error::UnknownRangeListsEntry(_) => "UnknownRangeListsEntry",
+            Error::UnknownLocListsEntry(_) => "UnknownLocListsEntry",
+            Error::UnknownVersion(_) => "UnknownVersion",
+            Error::UnsupportedAddressSize(_) => "UnsupportedAddressSize",
+            Error::UnsupportedSegmentSize(_) => "UnsupportedSegmentSize",
+            Error::UnknownReservedLength(_) => "UnknownReservedLength",
+            Error::UnsupportedOffset => "UnsupportedOffset",
+            Error::TooManyRanges => "TooManyRanges",
+            Error::NoSpace => "NoSpace",
+            Error::BadSheet => "BadSheet",
+        }
+    }
+}
+
+impl fmt::Display for Error {
+    fn fmt(&self, f: &mut fmt::Formatter<'_>) -> fmt::Result {
+        write!(f, "{} {}", self.number(), self.name())?;
+        match self.value() {
+            Some(value) => write!(f, " {value:#x}"),
+            None => Ok(()),
+        }
+    }
+}
+
+impl core::error::Error for Error {}
+
+/// The words by a result code: an item, nothing, or the refusal in words 2 and 3.
+pub(super) fn answered<const N: usize>(code: u64, words: [u64; N]) -> Result<Option<[u64; N]>> {
+    match code {
+        0 => Ok(Some(words)),
+        1 => Ok(None),
+        2 => Err(Error::from_words(words[2], words[3])),
+        _ => unreachable!("the library has no result code {code}"),
+    }
+}
+
+/// The same for a call that has no end.
+pub(super) fn done<const N: usize>(code: u64, words: [u64; N]) -> Result<[u64; N]> {
+    match answered(code, words)? {
+        Some(words) => Ok(words),
+        None => unreachable!("a call without an end ended"),
+    }
+}

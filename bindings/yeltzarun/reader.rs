@@ -1,0 +1,179 @@
+//! Sums of addresses, and numbers read from lent bytes.
+
+use super::error::done;
+use super::ffi;
+use super::{Format, Result, RunTimeEndian};
+
+/// Sums and bounds of addresses, by address size.
+pub trait ReaderAddress: Sized {
+    /// The sum modulo 2^64, kept to the size.
+    fn wrapping_add_sized(self, length: u64, size: u8) -> Self;
+    /// The largest address of the size.
+    fn ones_sized(size: u8) -> Self;
+    /// From this address on, one stands for code that was removed.
+    fn min_tombstone(size: u8) -> Self;
+}
+
+impl ReaderAddress for u64 {
+    fn wrapping_add_sized(self, length: u64, size: u8) -> u64 {
+        ffi::yz_wrapping_add_sized(self, length, size)
+    }
+
+    fn ones_sized(size: u8) -> u64 {
+        ffi::yz_ones_sized(size)
+    }
+
+    fn min_tombstone(size: u8) -> u64 {
+        ffi::yz_min_tombstone(size)
+    }
+}
+
+/// The bytes of a part of a section; none where it doesn't lie in there.
+pub(super) fn part(section: &[u8], offset: u64, len: u64) -> &[u8] {
+    let end = offset.saturating_add(len);
+    section.get(offset as usize..end as usize).unwrap_or(&[])
+}
+
+/// Bytes with a byte order, read from the front. A refused read moves nothing.
+#[derive(Debug, Default, Clone, Copy, PartialEq, Eq, Hash)]
+pub struct EndianSlice<'a> {
+    pub(super) section: &'a [u8],
+    pub(super) at: usize,
+    pub(super) endian: RunTimeEndian,
+}
+
+impl<'a> EndianSlice<'a> {
+    /// All of the bytes.
+    pub fn new(slice: &'a [u8], endian: RunTimeEndian) -> EndianSlice<'a> {
+        EndianSlice { section: slice, at: 0, endian }
+    }
+
+    /// The bytes that are left.
+    pub fn slice(&self) -> &'a [u8] {
+        self.section.get(self.at..).unwrap_or(&[])
+    }
+
+    /// The byte order.
+    pub fn endian(&self) -> RunTimeEndian {
+        self.endian
+    }
+
+    /// How many bytes are left.
+    pub fn len(&self) -> usize {
+        self.slice().len()
+    }
+
+    /// Whether no bytes are left.
+    pub fn is_empty(&self) -> bool {
+        self.len() == 0
+    }
+
+    /// The words of a call at the place, which then moves.
+    fn read(
+        &mut self,
+        call: impl FnOnce(ffi::Ptr, usize, usize, bool, &mut ffi::Four) -> u64,
+    ) -> Result<ffi::Four> {
+        let mut out = [0; 4];
+        let big = self.endian.is_big_endian();
+        let code = call(self.section.as_ptr(), self.section.len(), self.at, big, &mut out);
+        let words = done(code, out)?;
+        self.at = words[0] as usize;
+        Ok(words)
+    }
+
+    /// A number of one byte.
+    pub fn read_u8(&mut self) -> Result<u8> {
+        // SAFETY: pointer and length are of one slice.
+        let words = self.read(|s, n, at, _, out| unsafe { ffi::yz_read_u8(s, n, at, out) })?;
+        Ok(words[2] as u8)
+    }
+
+    /// A number of two bytes.
+    pub fn read_u16(&mut self) -> Result<u16> {
+        // SAFETY: pointer and length are of one slice.
+        let words =
+            self.read(|s, n, at, big, out| unsafe { ffi::yz_read_u16(s, n, at, big, out) })?;
+        Ok(words[2] as u16)
+    }
+
+    /// A number of four bytes.
+    pub fn read_u32(&mut self) -> Result<u32> {
+        // SAFETY: pointer and length are of one slice.
+        let words =
+            self.read(|s, n, at, big, out| unsafe { ffi::yz_read_u32(s, n, at, big, out) })?;
+        Ok(words[2] as u32)
+    }
+
+    /// A number of eight bytes.
+    pub fn read_u64(&mut self) -> Result<u64> {
+        // SAFETY: pointer and length are of one slice.
+        let words =
+            self.read(|s, n, at, big, out| unsafe { ffi::yz_read_u64(s, n, at, big, out) })?;
+        Ok(words[2])
+    }
+
+    /// An unsigned LEB128 number.
+    pub fn read_uleb128(&mut self) -> Result<u64> {
+        // SAFETY: pointer and length are of one slice.
+        let words = self.read(|s, n, at, _, out| unsafe { ffi::yz_uleb128(s, n, at, out) })?;
+        Ok(words[2])
+    }
+
+    /// An address of a size.
+    pub fn read_address(&mut self, address_size: u8) -> Result<u64> {
+        // SAFETY: pointer and length are of one slice.
+        let words = self.read(|s, n, at, big, out| unsafe {
+            ffi::yz_read_address(s, n, at, address_size, big, out)
+        })?;
+        Ok(words[2])
+    }
+
+    /// An address size of one byte.
+    pub fn read_address_size(&mut self) -> Result<u8> {
+        // SAFETY: pointer and length are of one slice.
+        let words =
+            self.read(|s, n, at, _, out| unsafe { ffi::yz_read_address_size(s, n, at, out) })?;
+        Ok(words[2] as u8)
+    }
+
+    /// An offset of a format.
+    pub fn read_offset(&mut self, format: Format) -> Result<u64> {
+        let dwarf64 = format.is_dwarf64();
+        // SAFETY: pointer and length are of one slice.
+        let words = self.read(|s, n, at, big, out| unsafe {
+            ffi::yz_read_offset(s, n, at, dwarf64, big, out)
+        })?;
+        Ok(words[2])
+    }
+
+    /// An initial length and the format that it tells.
+    pub fn read_initial_length(&mut self) -> Result<(u64, Format)> {
+        // SAFETY: pointer and length are of one slice.
+        let words =
+            self.read(|s, n, at, big, out| unsafe { ffi::yz_initial_length(s, n, at, big, out) })?;
+        Ok((words[2], Format::of_word(words[3])))
+    }
+
+    /// Passes over some bytes.
+    pub fn skip(&mut self, len: u64) -> Result<()> {
+        // SAFETY: pointer and length are of one slice.
+        self.read(|s, n, at, _, out| unsafe { ffi::yz_skip(s, n, at, len, out) })?;
+        Ok(())
+    }
+
+    /// Takes some bytes off the front.
+    pub fn split(&mut self, len: u64) -> Result<EndianSlice<'a>> {
+        // SAFETY: pointer and length are of one slice.
+        let words = self.read(|s, n, at, _, out| unsafe { ffi::yz_split(s, n, at, len, out) })?;
+        Ok(EndianSlice::new(part(self.section, words[2], words[3]), self.endian))
+    }
+
+    /// Cuts what is left to a length.
+    pub fn truncate(&mut self, len: u64) -> Result<()> {
+        // SAFETY: pointer and length are of one slice.
+        let words =
+            self.read(|s, n, at, _, out| unsafe { ffi::yz_truncate(s, n, at, len, out) })?;
+        self.section = part(self.section, 0, words[2]);
+        Ok(())
+    }
+}
