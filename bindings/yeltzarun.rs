@@ -4,6 +4,30 @@
 //! Every call ends and answers every input; what can't be read gets a numbered [`Error`]. A section
 //! is a lent slice with a byte order. Where a list is read with an address table, the list's byte
 //! order is used for both. The calls over a [`Coverage`] take about 100 KB of stack.
+//!
+//! ```
+//! use yeltzarun::*;
+//!
+//! // A split location list of DWARF 4, and the address table that its entry points into.
+//! let list = [0x03, 0x00, 0x08, 0x00, 0x00, 0x00, 0x01, 0x00, 0x50, 0x00];
+//! let table = [12, 0, 0, 0, 5, 0, 4, 0, 0x10, 0, 0, 0, 0x20, 0, 0, 0];
+//! let little = RunTimeEndian::Little;
+//! let lists = LocationLists::new(DebugLoc::new(&list, little), DebugLocLists::default());
+//! let encoding = Encoding { address_size: 4, format: Format::Dwarf32, version: 4 };
+//! let (offset, base) = (LocationListsOffset(0), DebugAddrBase(8));
+//! let debug_addr = DebugAddr::new(&table, little);
+//!
+//! let mut walk = lists.locations_dwo(offset, encoding, 0, &debug_addr, base)?;
+//! while let Some(location) = walk.next()? {
+//!     assert_eq!(location.range, Range { begin: 0x10, end: 0x18 });
+//!     assert_eq!(location.data.bytes(), [0x50]);
+//! }
+//!
+//! let dwo = DwarfFileType::Dwo;
+//! let found = lists.lookup(offset, encoding, dwo, 0, &debug_addr, base, 0x18)?;
+//! assert_eq!(found, None);
+//! # Ok::<(), Error>(())
+//! ```
 
 #![warn(missing_docs)]
 
