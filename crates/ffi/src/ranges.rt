@@ -1,230 +1,12 @@
 // Range lists.
-use super::words::Eight;
-use super::words::Four;
-use super::words::Words4;
-use super::words::Words8;
 use bytes::common::DebugAddrBase;
-use bytes::common::DebugAddrIndex;
-use bytes::common::Encoding;
-use bytes::common::RangeListsOffset;
-use bytes::endianity::RunTimeEndian;
-use bytes::error::Error;
-use entries::RawRngListEntry;
-use lists::Opened;
+use ffi_words::words::Words8;
 use lists::Walk;
-use lists::rnglists::RawRngAnswer;
-use lists::rnglists::RngAnswer;
-use lists::rnglists::RngConverted;
-use lookups::RangeFound;
 ghost use mathlib.Core.Path.{_≡_};
 ghost use mathlib.Core.List.{_∷_};
-ghost use Rattle.lists.specs.Open.{toldOpened, opened};
-ghost use Rattle.lists.specs.Walk.{toldNextRange, nextRange, toldRawRange, nextRawRange, toldConvertedRange};
-ghost use Rattle.lookups.specs.Lookup.{toldRange, lookupRange};
-ghost use Rattle.ffi.specs.Words.{endianOf, encodingOf, walkOf, fourOf, eightOf};
-ghost use Rattle.ffi.specs.ListWords.{opening, rangeNext, rangeEntry, rawRangeNext, rangeOf, convertRange, convertRangeWords, rangeOutcome, rangeFound};
-
-pub(crate) fn opened_words(r: Opened) -> Four
-    ensures { λ w. ⌜ fourOf w ≡ opening (toldOpened r) ⌝ }
-{
-    match r {
-        Opened::List(walk) => Four {
-            code: 0,
-            a: walk.at as u64,
-            b: walk.base_address,
-            c: 0,
-            d: 0,
-        },
-        Opened::Refused(e) => super::words::refused_four(0, 0, e),
-    }
-}
-
-fn range_words(r: RngAnswer) -> Four
-    ensures { λ w. ⌜ fourOf w ≡ rangeNext (toldNextRange r) ⌝ }
-{
-    match r {
-        RngAnswer::Range(range, walk) => Four {
-            code: 0,
-            a: walk.at as u64,
-            b: walk.base_address,
-            c: range.begin,
-            d: range.end,
-        },
-        RngAnswer::End(walk) => super::words::end_four(walk.at as u64, walk.base_address),
-        RngAnswer::Refused(e, walk) => super::words::refused_four(
-            walk.at as u64,
-            walk.base_address,
-            e,
-        ),
-    }
-}
-
-fn numbers(at: u64, base: u64, code: u64, first: u64, second: u64) -> Eight
-    ensures { λ w. ⌜ w ≡ record { code = 0; a = at; b = base; c = code; d = first; e = second; f = 0; g = 0; h = 0 } ⌝ }
-{
-    Eight {
-        code: 0,
-        a: at,
-        b: base,
-        c: code,
-        d: first,
-        e: second,
-        f: 0,
-        g: 0,
-        h: 0,
-    }
-}
-
-fn entry_words(raw: RawRngListEntry, at: u64, base: u64) -> Eight
-    ensures { λ w. ⌜ eightOf w ≡ rangeEntry at base raw ⌝ }
-{
-    match raw {
-        RawRngListEntry::AddressOrOffsetPair(begin, end) => numbers(at, base, 0, begin, end),
-        RawRngListEntry::BaseAddressx(index) => numbers(at, base, 1, index.0, 0),
-        RawRngListEntry::StartxEndx(begin, end) => numbers(at, base, 2, begin.0, end.0),
-        RawRngListEntry::StartxLength(begin, length) => numbers(at, base, 3, begin.0, length),
-        RawRngListEntry::OffsetPair(begin, end) => numbers(at, base, 4, begin, end),
-        RawRngListEntry::BaseAddress(address) => numbers(at, base, 5, address, 0),
-        RawRngListEntry::StartEnd(begin, end) => numbers(at, base, 6, begin, end),
-        RawRngListEntry::StartLength(begin, length) => numbers(at, base, 7, begin, length),
-    }
-}
-
-fn raw_words(r: RawRngAnswer) -> Eight
-    ensures { λ w. ⌜ eightOf w ≡ rawRangeNext (toldRawRange r) ⌝ }
-{
-    match r {
-        RawRngAnswer::Entry(raw, walk) => entry_words(raw, walk.at as u64, walk.base_address),
-        RawRngAnswer::End(walk) => super::words::end_eight(walk.at as u64, walk.base_address),
-        RawRngAnswer::Refused(e, walk) => super::words::refused_eight(
-            walk.at as u64,
-            walk.base_address,
-            e,
-        ),
-    }
-}
-
-fn entry_of(code: u64, first: u64, second: u64) -> RawRngListEntry
-    ensures { λ r. ⌜ r ≡ rangeOf code first second ⌝ }
-{
-    match code {
-        0 => RawRngListEntry::AddressOrOffsetPair(first, second),
-        1 => RawRngListEntry::BaseAddressx(DebugAddrIndex(first)),
-        2 => RawRngListEntry::StartxEndx(DebugAddrIndex(first), DebugAddrIndex(second)),
-        3 => RawRngListEntry::StartxLength(DebugAddrIndex(first), second),
-        4 => RawRngListEntry::OffsetPair(first, second),
-        5 => RawRngListEntry::BaseAddress(first),
-        6 => RawRngListEntry::StartEnd(first, second),
-        _ => RawRngListEntry::StartLength(first, second),
-    }
-}
-
-fn convert(
-    code: u64,
-    first: u64,
-    second: u64,
-    debug_addr: &[u8],
-    debug_addr_base: DebugAddrBase,
-    walk: Walk,
-    encoding: Encoding,
-    endian: RunTimeEndian,
-) -> RngConverted
-    ensures { λ r. ⌜ toldConvertedRange r ≡ convertRange encoding endian (now («debug_addr» .entry)) «debug_addr_base» walk code first second ⌝ }
-{
-    if 7 < code {
-        return RngConverted::Refused(Error::UnknownRangeListsEntry(code), walk);
-    }
-    let raw = entry_of(code, first, second);
-    lists::rnglists::convert_raw(raw, debug_addr, debug_addr_base, walk, encoding, endian)
-}
-
-fn converted_words(r: RngConverted) -> Eight
-    ensures { λ w. ⌜ eightOf w ≡ rangeOutcome (toldConvertedRange r) ⌝ }
-{
-    match r {
-        RngConverted::Range(range, walk) => Eight {
-            code: 0,
-            a: walk.at as u64,
-            b: walk.base_address,
-            c: range.begin,
-            d: range.end,
-            e: 0,
-            f: 0,
-            g: 0,
-            h: 0,
-        },
-        RngConverted::Nothing(walk) => super::words::end_eight(walk.at as u64, walk.base_address),
-        RngConverted::Refused(e, walk) => super::words::refused_eight(
-            walk.at as u64,
-            walk.base_address,
-            e,
-        ),
-    }
-}
-
-fn found_words(r: RangeFound) -> Four
-    ensures { λ w. ⌜ fourOf w ≡ rangeFound (toldRange r) ⌝ }
-{
-    match r {
-        RangeFound::Found(range) => Four {
-            code: 0,
-            a: 0,
-            b: 0,
-            c: range.begin,
-            d: range.end,
-        },
-        RangeFound::NotThere => super::words::end_four(0, 0),
-        RangeFound::Refused(e) => super::words::refused_four(0, 0, e),
-    }
-}
-
-#[no_mangle]
-pub extern "C" fn yz_range_open(
-    section: &[u8],
-    offset: u64,
-    address_size: u8,
-    dwarf64: bool,
-    version: u16,
-    base_address: u64,
-    out: &mut Words4,
-) -> u64
-    ensures { λ r. ⌜ r ∷ now (out .exit) ≡ opening (opened (encodingOf «address_size» dwarf64 version) (now (section .entry)) offset «base_address») ⌝ }
-{
-    let encoding = super::words::encoding_of(address_size, dwarf64, version);
-    let r = lists::rnglists::ranges(section, RangeListsOffset(offset), encoding, base_address);
-    let w = opened_words(r);
-    super::words::write_four(out, w)
-}
-
-#[no_mangle]
-pub extern "C" fn yz_range_next(
-    section: &[u8],
-    debug_addr: &[u8],
-    debug_addr_base: u64,
-    address_size: u8,
-    dwarf64: bool,
-    version: u16,
-    big_endian: bool,
-    io: &mut Words4,
-) -> u64
-    ensures { λ r. ⌜ r ∷ now (io .exit) ≡ rangeNext (nextRange (encodingOf «address_size» dwarf64 version) (endianOf «big_endian») (now (section .entry)) (now («debug_addr» .entry)) (record { 0 = «debug_addr_base» }) (walkOf (now (io .entry)))) ⌝ }
-{
-    let at = io[0] as usize;
-    let base_address = io[1];
-    let encoding = super::words::encoding_of(address_size, dwarf64, version);
-    let endian = super::words::endian_of(big_endian);
-    let walk = Walk { at, base_address };
-    let r = lists::rnglists::next(
-        section,
-        debug_addr,
-        DebugAddrBase(debug_addr_base),
-        walk,
-        encoding,
-        endian,
-    );
-    let w = range_words(r);
-    super::words::write_four(io, w)
-}
+ghost use Rattle.lists.specs.Walk.{nextRawRange};
+ghost use Rattle.ffi_words.specs.Words.{endianOf, encodingOf, walkOf};
+ghost use Rattle.ffi_words.specs.ListWords.{rawRangeNext, convertRangeWords, rangeOutcome};
 
 #[no_mangle]
 pub extern "C" fn yz_range_next_raw(
@@ -239,12 +21,12 @@ pub extern "C" fn yz_range_next_raw(
 {
     let at = io[0] as usize;
     let base_address = io[1];
-    let encoding = super::words::encoding_of(address_size, dwarf64, version);
-    let endian = super::words::endian_of(big_endian);
+    let encoding = ffi_words::words::encoding_of(address_size, dwarf64, version);
+    let endian = ffi_words::words::endian_of(big_endian);
     let walk = Walk { at, base_address };
     let r = lists::rnglists::next_raw(section, walk, encoding, endian);
-    let w = raw_words(r);
-    super::words::write_eight(io, w)
+    let w = ffi_words::ranges::raw_words(r);
+    ffi_words::words::write_eight(io, w)
 }
 
 #[no_mangle]
@@ -264,10 +46,10 @@ pub extern "C" fn yz_range_convert_raw(
     let code = io[2];
     let first = io[3];
     let second = io[4];
-    let encoding = super::words::encoding_of(address_size, dwarf64, version);
-    let endian = super::words::endian_of(big_endian);
+    let encoding = ffi_words::words::encoding_of(address_size, dwarf64, version);
+    let endian = ffi_words::words::endian_of(big_endian);
     let walk = Walk { at, base_address };
-    let r = convert(
+    let r = ffi_words::ranges::convert(
         code,
         first,
         second,
@@ -277,38 +59,6 @@ pub extern "C" fn yz_range_convert_raw(
         encoding,
         endian,
     );
-    let w = converted_words(r);
-    super::words::write_eight(io, w)
-}
-
-#[no_mangle]
-pub extern "C" fn yz_range_lookup(
-    section: &[u8],
-    debug_addr: &[u8],
-    debug_addr_base: u64,
-    offset: u64,
-    base_address: u64,
-    address_size: u8,
-    dwarf64: bool,
-    version: u16,
-    big_endian: bool,
-    address: u64,
-    out: &mut Words4,
-) -> u64
-    ensures { λ r. ⌜ r ∷ now (out .exit) ≡ rangeFound (lookupRange (encodingOf «address_size» dwarf64 version) (endianOf «big_endian») (now (section .entry)) (now («debug_addr» .entry)) (record { 0 = «debug_addr_base» }) offset «base_address» address) ⌝ }
-{
-    let encoding = super::words::encoding_of(address_size, dwarf64, version);
-    let endian = super::words::endian_of(big_endian);
-    let r = lookups::lookup_range(
-        section,
-        debug_addr,
-        DebugAddrBase(debug_addr_base),
-        RangeListsOffset(offset),
-        base_address,
-        encoding,
-        endian,
-        address,
-    );
-    let w = found_words(r);
-    super::words::write_four(out, w)
+    let w = ffi_words::ranges::converted_words(r);
+    ffi_words::words::write_eight(io, w)
 }

@@ -1,4 +1,4 @@
-use Rattle.ffi.proofs.CoverageLaws.{filled-words}
+use Rattle.ffi_words.proofs.CoverageLaws.{filled-words}
 use borrow.Author.Needs.{needs}
 use Rattle.ffi.proofs.coverages.yz_canonical.Statement.{statement}
 use Rattle.ffi.proofs.coverages.yz_canonical.Tie as tie

@@ -1,4 +1,4 @@
-use Rattle.ffi.proofs.CoverageLaws.{handed-out}
+use Rattle.ffi_words.proofs.CoverageLaws.{handed-out}
 use borrow.Author.Needs.{needs}
 use Rattle.ffi.proofs.coverages.yz_coverage_from_sheet.Statement.{statement}
 use Rattle.ffi.proofs.coverages.yz_coverage_from_sheet.Tie as tie

@@ -1,5 +1,5 @@
 use mathlib.Core.Path.{ap, _∙_}
-use Rattle.ffi.specs.Words.{numberResult}
+use Rattle.ffi_words.specs.Words.{numberResult}
 use Rattle.tables.specs.Addr.{addressAt}
 use Rattle.bytes.specs.declared.endianity.RunTimeEndian.{RunTimeEndian}
 use borrow.Author.Needs.{needs}

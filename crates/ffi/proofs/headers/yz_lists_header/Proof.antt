@@ -1,5 +1,5 @@
 use mathlib.Core.Path.{ap, _∙_}
-use Rattle.ffi.specs.TableWords.{listsWords}
+use Rattle.ffi_words.specs.TableWords.{listsWords}
 use Rattle.tables.specs.Lists.{listsHeader}
 use Rattle.bytes.specs.declared.endianity.RunTimeEndian.{RunTimeEndian}
 use borrow.Author.Needs.{needs}

@@ -1,5 +1,5 @@
 use mathlib.Core.Path.{ap, ap₂, _∙_}
-use Rattle.ffi.specs.Words.{numberResult}
+use Rattle.ffi_words.specs.Words.{numberResult}
 use Rattle.tables.specs.Row.{rangeOffset}
 use Rattle.bytes.specs.declared.common.Encoding.{Encoding}
 use Rattle.bytes.specs.declared.endianity.RunTimeEndian.{RunTimeEndian}

@@ -1,6 +1,6 @@
 use mathlib.Core.Path.{ap, ap₂, _∙_}
 use lib.ListN.{getD}
-use Rattle.ffi.specs.TableWords.{entryNext}
+use Rattle.ffi_words.specs.TableWords.{entryNext}
 use Rattle.tables.specs.Addr.{nextEntry}
 use Rattle.bytes.specs.declared.common.Encoding.{Encoding}
 use Rattle.bytes.specs.declared.endianity.RunTimeEndian.{RunTimeEndian}

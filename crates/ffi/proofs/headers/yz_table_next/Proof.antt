@@ -1,6 +1,6 @@
 use mathlib.Core.Path.{ap, _∙_}
 use lib.ListN.{getD}
-use Rattle.ffi.specs.TableWords.{tableNext}
+use Rattle.ffi_words.specs.TableWords.{tableNext}
 use Rattle.tables.specs.Addr.{nextHeader, headersAt}
 use Rattle.bytes.specs.declared.endianity.RunTimeEndian.{RunTimeEndian}
 use borrow.Author.Needs.{needs}

@@ -1,5 +1,5 @@
 use mathlib.Core.Path.{ap, ap₂, _∙_}
-use Rattle.ffi.specs.ListWords.{rangeOutcome, convertRangeWords}
+use Rattle.ffi_words.specs.ListWords.{rangeOutcome, convertRangeWords}
 use Rattle.bytes.specs.declared.common.Encoding.{Encoding}
 use Rattle.bytes.specs.declared.endianity.RunTimeEndian.{RunTimeEndian}
 use borrow.Author.Needs.{needs}

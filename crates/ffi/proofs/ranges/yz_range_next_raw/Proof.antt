@@ -1,6 +1,6 @@
 use mathlib.Core.Path.{ap, ap₂, _∙_}
-use Rattle.ffi.specs.ListWords.{rawRangeNext}
-use Rattle.ffi.specs.Words.{walkOf}
+use Rattle.ffi_words.specs.ListWords.{rawRangeNext}
+use Rattle.ffi_words.specs.Words.{walkOf}
 use Rattle.lists.specs.Walk.{nextRawRange}
 use Rattle.bytes.specs.declared.common.Encoding.{Encoding}
 use Rattle.bytes.specs.declared.endianity.RunTimeEndian.{RunTimeEndian}

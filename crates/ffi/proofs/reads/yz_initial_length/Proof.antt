@@ -1,5 +1,5 @@
 use mathlib.Core.Path.{ap, _∙_}
-use Rattle.ffi.specs.Words.{lengthRead}
+use Rattle.ffi_words.specs.Words.{lengthRead}
 use Rattle.bytes.specs.Reader.{initialLength}
 use Rattle.bytes.specs.declared.endianity.RunTimeEndian.{RunTimeEndian}
 use borrow.Author.Needs.{needs}

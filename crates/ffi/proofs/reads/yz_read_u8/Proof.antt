@@ -1,5 +1,5 @@
 use mathlib.Core.Path.{ap, _∙_}
-use Rattle.ffi.specs.Words.{numberRead}
+use Rattle.ffi_words.specs.Words.{numberRead}
 use borrow.Author.Needs.{needs}
 use Rattle.ffi.proofs.reads.yz_read_u8.Statement.{statement}
 use Rattle.ffi.proofs.reads.yz_read_u8.Tie as tie

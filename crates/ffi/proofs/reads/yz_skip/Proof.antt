@@ -1,5 +1,5 @@
 use mathlib.Core.Path.{ap, _∙_}
-use Rattle.ffi.specs.Words.{placeRead}
+use Rattle.ffi_words.specs.Words.{placeRead}
 use borrow.Author.Needs.{needs}
 use Rattle.ffi.proofs.reads.yz_skip.Statement.{statement}
 use Rattle.ffi.proofs.reads.yz_skip.Tie as tie

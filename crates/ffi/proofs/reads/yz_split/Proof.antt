@@ -1,5 +1,5 @@
 use mathlib.Core.Path.{ap, _∙_}
-use Rattle.ffi.specs.Words.{spanRead}
+use Rattle.ffi_words.specs.Words.{spanRead}
 use borrow.Author.Needs.{needs}
 use Rattle.ffi.proofs.reads.yz_split.Statement.{statement}
 use Rattle.ffi.proofs.reads.yz_split.Tie as tie

@@ -1,0 +1,44 @@
+use mathlib.Core.Path.{sym, ap, _∙_}
+use Rattle.ffi_words.specs.ListWords.{locationOutcome}
+use Rattle.lists.specs.Walk.{toldConvertedLocation}
+use Rattle.lists.specs.declared.loclists.LocConverted.{LocConverted}
+use borrow.Author.Needs.{needs}
+use Rattle.ffi_words.proofs.locations.converted_words.Statement.{statement}
+use Rattle.ffi_words.proofs.locations.converted_words.Tie as tie
+
+enum-known-r : tie.Need-enum-known-r
+enum-known-r c = search needs
+
+enum-known-r-2 : tie.Need-enum-known-r-2
+enum-known-r-2 c = search needs
+
+end-eight-requires : tie.Need-end-eight-requires
+end-eight-requires c κs = search needs
+
+enum-known-r-3 : tie.Need-enum-known-r-3
+enum-known-r-3 c = search needs
+
+refused-eight-requires : tie.Need-refused-eight-requires
+refused-eight-requires c κs = search needs
+
+returns : tie.Need-returns
+returns c = sym (ap (λ (x : LocConverted). locationOutcome (toldConvertedLocation x)) (c .before .before .before .r .given .1))
+
+returns-2 : tie.Need-returns-2
+returns-2 c = c .end-eight .ensures ∙ sym (ap (λ (x : LocConverted). locationOutcome (toldConvertedLocation x)) (c .before .before .r2 .given .1))
+
+returns-3 : tie.Need-returns-3
+returns-3 c = c .refused-eight .ensures ∙ sym (ap (λ (x : LocConverted). locationOutcome (toldConvertedLocation x)) (c .before .before .r3 .given .1))
+
+pub converted-words-spec : {M : Type 1} → statement M
+converted-words-spec =
+    tie.close
+    (tie.spec
+    enum-known-r
+    enum-known-r-2
+    end-eight-requires
+    enum-known-r-3
+    refused-eight-requires
+    returns
+    returns-2
+    returns-3)

@@ -1,0 +1,44 @@
+use mathlib.Core.Path.{sym, ap, _∙_}
+use Rattle.ffi_words.specs.ListWords.{rangeFound}
+use Rattle.lookups.specs.Lookup.{toldRange}
+use Rattle.lookups.specs.declared.RangeFound.{RangeFound}
+use borrow.Author.Needs.{needs}
+use Rattle.ffi_words.proofs.ranges.found_words.Statement.{statement}
+use Rattle.ffi_words.proofs.ranges.found_words.Tie as tie
+
+enum-known-r : tie.Need-enum-known-r
+enum-known-r c = search needs
+
+enum-told : tie.Need-enum-told
+enum-told c = search needs
+
+end-four-requires : tie.Need-end-four-requires
+end-four-requires c κs = search needs
+
+enum-known-r-2 : tie.Need-enum-known-r-2
+enum-known-r-2 c = search needs
+
+refused-four-requires : tie.Need-refused-four-requires
+refused-four-requires c κs = search needs
+
+returns : tie.Need-returns
+returns c = sym (ap (λ (x : RangeFound). rangeFound (toldRange x)) (c .before .r .given .1))
+
+returns-2 : tie.Need-returns-2
+returns-2 c = c .end-four .ensures ∙ sym (ap (λ (x : RangeFound). rangeFound (toldRange x)) (c .before .enum-told .given .1))
+
+returns-3 : tie.Need-returns-3
+returns-3 c = c .refused-four .ensures ∙ sym (ap (λ (x : RangeFound). rangeFound (toldRange x)) (c .before .before .r2 .given .1))
+
+pub found-words-spec : {M : Type 1} → statement M
+found-words-spec =
+    tie.close
+    (tie.spec
+    enum-known-r
+    enum-told
+    end-four-requires
+    enum-known-r-2
+    refused-four-requires
+    returns
+    returns-2
+    returns-3)
