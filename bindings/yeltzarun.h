@@ -1,4 +1,4 @@
-/* Range lists, location lists and address tables of DWARF 2 to 5: the readers of crate ffi for C99 and C++.
+/* Range lists, location lists and address tables of DWARF 2 to 5: the interface for C99 and C++.
  *
  * Every call ends, reads no byte outside the bytes that it is lent, and answers every input; nothing has to be checked
  * before it. The caller sees to it that a pointer and its length name readable bytes (the pointer may be NULL where the
