@@ -3,11 +3,11 @@ use mathlib.Core.Path.{_≡_, refl, sym, ap, _∙_, fun-ext}
 use mathlib.Core.Bool.{Bool}
 use mathlib.Core.List.{List, [], _∷_}
 use mathlib.Core.Logic.{⊎-elim}
-use Prim.Native.Nat.{ℕ, _+_, _-_, _≤_, _<_}
+use Prim.Native.Nat.{ℕ, _-_, _≤_, _<_}
 use native.Mathlib.Nat.{eq-or-lt-of-le}
 use native.Mathlib.Omega.{arith}
 use lib.Dec.{eqb}
-use lib.ListN.{length, take, drop}
+use lib.ListN.{length}
 use borrow.Author.Tests.{le-ltb, lt-ltb, eq-eqb, ne-eqb}
 use Rattle.bytes.specs.Read.{Read, got, refused, andThen, pick}
 use Rattle.bytes.specs.Error.{told, refusal}
@@ -28,11 +28,12 @@ use Rattle.entries.specs.declared.RawLocListEntry.the-variants as loc
 use Rattle.entries.specs.declared.loclists.Head.{Head}
 use Rattle.entries.specs.declared.loclists.Head.the-variants as head
 use Rattle.entries.specs.Forms.{expression, addrIndex, indexed, byVersion, operands, Raw, stop, entry}
-use Rattle.entries.specs.Kinds.{locationKinds, kindOf, ofKind, codedLocation, locationEntry, moved, rawAt}
+use Rattle.entries.specs.Kinds.{locationKinds, kindOf, ofKind, codedLocation, locationEntry, moved}
 use Rattle.entries.specs.Told.{Step, found, stepOf}
 use Rattle.entries.specs.Heads.{firstOperand, secondOperand, locatedAs, headed, refusedHead}
-use Rattle.entries.proofs.KindLaws.{no-code, code-is, code-unknown, no-location-kind, raw-there, part-is}
-use Rattle.entries.proofs.StepLaws.{step-found, shifted}
+use Rattle.entries.proofs.KindLaws.{no-code, code-is, code-unknown, no-location-kind}
+use Rattle.entries.proofs.StepLaws.{step-found}
+use Rattle.entries.proofs.MovedLaws.{moved-alike}
 use Rattle.entries.proofs.EntryTook.{location-entry-took}
 
 -- a refusal that the code hands on
@@ -187,21 +188,6 @@ module _ (p : Encoding) (endian : RunTimeEndian) (start : ℕ) (s : List ℕ) wh
   pub pair-head : (b e c : ℕ) → operands p endian start s (expression ∷ []) (loc.AddressOrOffsetPair b e) c ≡ headed p endian start s (head.Bounds 0 b e c)
   unfolding locatedAs
   pair-head b e c = refl
-
--- answers that say the same say the same of the section
-module _ {E : Type 0} where
-  moved-step : (at : ℕ) (r : Read (Raw E)) → shifted at (stepOf r) ≡ stepOf (moved at r)
-  moved-step at (got stop n) = refl
-  moved-step at (got (entry e) n) = refl
-  moved-step at (refused n vs) = refl
-
-  moved-alike : (at : ℕ) (r q : Read (Raw E)) → stepOf r ≡ stepOf q → stepOf (moved at r) ≡ stepOf (moved at q)
-  moved-alike at r q h = sym (moved-step at r) ∙ ap (shifted at) h ∙ moved-step at q
-
-  -- what was answered in the part that the code hands over is the section's answer
-  pub raw-moved : (read : List ℕ → Read (Raw E)) (s : List ℕ) (at : ℕ) → at < length s → {q : Step E}
-      → q ≡ stepOf (moved at (read (take (length s - at) (drop at s)))) → q ≡ stepOf (rawAt read s at)
-  raw-moved read s at l h = rw part-is at h ∙ ap stepOf (sym (raw-there read s at l))
 
 -- what was read ends in the part
 within : {E : Type 0} (s : List ℕ) (r q : Read (Raw E)) {x : E} {n : ℕ} → Took 1 0 s s r q → found x n ≡ stepOf r → n ≤ length s

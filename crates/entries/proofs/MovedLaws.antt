@@ -8,7 +8,7 @@ use native.Mathlib.Omega.{arith}
 use lib.Dec.{leb}
 use lib.ListN.{length, take, drop, drop-of-length-le}
 use borrow.Author.Tests.{leb-true, leb-false}
-use Rattle.bytes.specs.Read.{Read, got}
+use Rattle.bytes.specs.Read.{Read, got, refused}
 use Rattle.bytes.specs.Error.{told}
 use Rattle.bytes.specs.Reader.{address}
 use Rattle.bytes.specs.Leb128.{unsigned, unsignedFrom}
@@ -18,8 +18,8 @@ use Rattle.bytes.specs.declared.Num.the-variants as num
 use Rattle.bytes.proofs.Took.{Took}
 use Rattle.bytes.proofs.ReaderTook.{address-took}
 use Rattle.bytes.proofs.LebTook.{unsigned-took}
-use Rattle.entries.specs.Told.{Step, stepOf}
-use Rattle.entries.specs.Forms.{Raw}
+use Rattle.entries.specs.Told.{Step, found, ended, failed, stepOf}
+use Rattle.entries.specs.Forms.{Raw, stop, entry}
 use Rattle.entries.specs.Kinds.{moved, rawAt}
 use Rattle.entries.proofs.KindLaws.{raw-there, part-is}
 
@@ -52,3 +52,18 @@ module _ {E : Type 0} where
   pub raw-from : (read : List ℕ → Read (Raw E)) (s : List ℕ) (at : ℕ) → at < length s → {t : Step E}
       → t ≡ stepFrom at (read (take (length s - at) (drop at s))) → t ≡ stepOf (rawAt read s at)
   raw-from read s at l h = rw part-is at h ∙ ap stepOf (sym (raw-there read s at l))
+
+  -- an answer's place counted in the section
+  abbrev shifted : ℕ → Step E → Step E
+  shifted at (found e n) = found e (at + n)
+  shifted at ended = ended
+  shifted at (failed n vs) = failed n vs
+
+  moved-step : (at : ℕ) (r : Read (Raw E)) → shifted at (stepOf r) ≡ stepFrom at r
+  moved-step at (got stop n) = refl
+  moved-step at (got (entry e) n) = refl
+  moved-step at (refused n vs) = refl
+
+  -- answers that say the same say the same of the section
+  pub moved-alike : (at : ℕ) (r q : Read (Raw E)) → stepOf r ≡ stepOf q → stepFrom at r ≡ stepFrom at q
+  moved-alike at r q h = sym (moved-step at r) ∙ ap (shifted at) h ∙ moved-step at q

@@ -3,7 +3,7 @@ use mathlib.Core.Path.{sym, ap}
 use borrow.Author.Needs.{needs}
 use Rattle.entries.specs.Told.{stepOf}
 use Rattle.entries.proofs.KindLaws.{raw-end}
-use Rattle.entries.proofs.HeadLaws.{raw-moved}
+use Rattle.entries.proofs.MovedLaws.{raw-from}
 use Rattle.entries.proofs.loclists.raw_location_entry.Statement.{statement}
 use Rattle.entries.proofs.loclists.raw_location_entry.Tie as tie
 
@@ -23,7 +23,7 @@ location-entry-requires : tie.Need-location-entry-requires
 location-entry-requires c κs = search needs
 
 returns-2 : tie.Need-returns-2
-returns-2 c = raw-moved _ _ _ (c .before .before .if1 .left) (c .location-entry .ensures)
+returns-2 c = raw-from _ _ _ (c .before .before .if1 .left) (c .location-entry .ensures)
 
 pub raw-location-entry-spec : {M : Type 1} → statement M
 raw-location-entry-spec =
