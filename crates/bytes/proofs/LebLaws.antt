@@ -133,5 +133,10 @@ pub one : (s : List ℕ) (at : ℕ) → at < length s → getD s at 0 < 128 → 
 unfolding unsigned
 one s at h b = sym (from-last s at 0 h (omega arith) (inr (omega arith)) b)
 
+-- a number of two bytes
+pub two : (s : List ℕ) (at : ℕ) → at + 1 < length s → 128 ≤ getD s at 0 → getD s (at + 1) 0 < 128
+    → got (bitOr (bitAnd (getD s at 0) 127) ((bitAnd (getD s (at + 1) 0) 127 * 2 ^ 7) % 2 ^ 64)) (at + 1 + 1) ≡ unsigned s at
+two s at h b l = last (begun s at (omega arith) b) h (inr (omega arith)) l
+
 pub none : (s : List ℕ) (at : ℕ) → length s ≤ at → refusal UnexpectedEof ≡ unsigned s at
 none s at h = ended (gathered-none s at) h

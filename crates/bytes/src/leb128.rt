@@ -33,7 +33,7 @@ fn unsigned_more(s: &[u8], at: usize) -> Num
 }
 
 // The low seven bits of each byte, the first byte lowest, at most ten bytes: 1 where one is missing, 2 where the tenth
-// is above 01.
+// is above 01. Most numbers in lists have one byte or two, which are read without the loop.
 pub fn unsigned(s: &[u8], at: usize) -> Num
     ensures { λ r. ⌜ told r ≡ unsignedAt (now (s .entry)) at ⌝ }
 {
@@ -43,6 +43,16 @@ pub fn unsigned(s: &[u8], at: usize) -> Num
     let byte = s[at];
     if byte < 128 {
         return Num::Got(byte as u64, at + 1);
+    }
+    let i = at + 1;
+    if i < s.len() {
+        let next = s[i];
+        if next < 128 {
+            return Num::Got(
+                ((byte & 0x7f) as u64) | (((next & 0x7f) as u64) << 7),
+                i + 1,
+            );
+        }
     }
     unsigned_more(s, at)
 }
