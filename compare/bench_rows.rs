@@ -326,12 +326,19 @@ impl Rows<'_> {
     }
 }
 
-/// A short and a long walk.
+/// No range holds it: ends are at most 2^64 - 1, and not held.
+const NOWHERE: u64 = u64::MAX;
+
+/// A short and a long walk, and the same inside a lookup in vain, which meets
+/// every entry: there the port's loop and its one caller of `next` stand in one
+/// function, as gimli's with one caller do.
 fn walk(rows: &mut Rows<'_>, word: &str, plan: Plan) {
     let (kind, size, order) = (kind_word(plan.kind), plan.size, order_word(plan.big));
     for count in [3, 1000] {
         let name = format!("{kind}-{word}-{size}-{order}-{count}");
         rows.add(name, |name| plan.row(name, 0..count));
+        let name = format!("inside-{kind}-{word}-{size}-{order}-{count}");
+        rows.add(name, |name| Row { task: Task::Lookup(NOWHERE), ..plan.row(name, 0..count) });
     }
 }
 
