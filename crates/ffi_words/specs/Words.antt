@@ -45,8 +45,7 @@ walkOf io = walkAt (getD io 0 0) (getD io 1 0)
 
 -- a refusal's value, 0 where it has none
 abbrev pub valueOf : List ℕ → ℕ
-valueOf [] = 0
-valueOf (v ∷ vs) = v
+valueOf vs = getD vs 0 0
 
 -- a result code with four words, and with eight: 0 an item, 1 the end or nothing, 2 a refusal by document 01's number and value
 abbrev pub four : ℕ → ℕ → ℕ → ℕ → ℕ → List ℕ

@@ -7,7 +7,7 @@ use bytes::error::Error;
 ghost use mathlib.Core.Path.{_≡_};
 ghost use mathlib.Core.List.{_∷_};
 ghost use Rattle.bytes.specs.Error.{number, values};
-ghost use Rattle.ffi_words.specs.Words.{endianOf, formatOf, encodingOf, fileOf, dwarf64Of, valueOf, fourOf, endFour, refusedFour, eightOf, endEight, refusedEight};
+ghost use Rattle.ffi_words.specs.Words.{endianOf, formatOf, encodingOf, fileOf, dwarf64Of, fourOf, endFour, refusedFour, eightOf, endEight, refusedEight};
 
 pub fn endian_of(big_endian: bool) -> RunTimeEndian
     ensures { λ r. ⌜ r ≡ endianOf «big_endian» ⌝ }
@@ -56,44 +56,6 @@ pub fn dwarf64_of(format: Format) -> u64
     }
 }
 
-pub fn number_of(e: Error) -> u64
-    ensures { λ r. ⌜ r ≡ number e ⌝ }
-{
-    match e {
-        Error::UnexpectedEof => 1,
-        Error::BadUnsignedLeb128 => 2,
-        Error::UnknownRangeListsEntry(_) => 3,
-        Error::UnknownLocListsEntry(_) => 4,
-        Error::UnknownVersion(_) => 5,
-        Error::UnsupportedAddressSize(_) => 6,
-        Error::UnsupportedSegmentSize(_) => 7,
-        Error::UnknownReservedLength(_) => 8,
-        Error::UnsupportedOffset => 9,
-        Error::TooManyRanges => 10,
-        Error::NoSpace => 11,
-        Error::BadSheet => 12,
-    }
-}
-
-pub fn value_of(e: Error) -> u64
-    ensures { λ r. ⌜ r ≡ valueOf (values e) ⌝ }
-{
-    match e {
-        Error::UnexpectedEof => 0,
-        Error::BadUnsignedLeb128 => 0,
-        Error::UnknownRangeListsEntry(v) => v,
-        Error::UnknownLocListsEntry(v) => v,
-        Error::UnknownVersion(v) => v,
-        Error::UnsupportedAddressSize(v) => v,
-        Error::UnsupportedSegmentSize(v) => v,
-        Error::UnknownReservedLength(v) => v,
-        Error::UnsupportedOffset => 0,
-        Error::TooManyRanges => 0,
-        Error::NoSpace => 0,
-        Error::BadSheet => 0,
-    }
-}
-
 // The words of a call.
 pub type Words4 = [u64; 4];
 
@@ -127,8 +89,8 @@ pub fn refused_four(a: u64, b: u64, e: Error) -> Four
         code: 2,
         a,
         b,
-        c: number_of(e),
-        d: value_of(e),
+        c: e.number(),
+        d: e.value(),
     }
 }
 
@@ -176,8 +138,8 @@ pub fn refused_eight(a: u64, b: u64, e: Error) -> Eight
         code: 2,
         a,
         b,
-        c: number_of(e),
-        d: value_of(e),
+        c: e.number(),
+        d: e.value(),
         e: 0,
         f: 0,
         g: 0,
