@@ -25,12 +25,9 @@ macro_rules! repeat {
 mod bench_gimli;
 mod bench_port;
 mod bench_rows;
-#[cfg(sets)]
 mod bench_sets;
 
-#[cfg(sets)]
-use bench_gimli::{Covering, Writing};
-use bench_gimli::{Lists, Seeking, Walking};
+use bench_gimli::{Covering, Lists, Seeking, Walking, Writing};
 use bench_rows::{Kind, Row, Task};
 use oracle::endianity::RunTimeEndian;
 use std::hint::black_box;
@@ -41,13 +38,13 @@ type Run<'a> = Box<dyn FnMut(u64) -> u64 + 'a>;
 const SIDES: [&str; 3] = ["port", "one", "several"];
 
 /// Port, gimli with one caller, gimli with several.
-fn sides(row: &Row) -> Option<[Run<'_>; 3]> {
-    Some(match row.task {
+fn sides(row: &Row) -> [Run<'_>; 3] {
+    match row.task {
         Task::Walk => walks(row),
         Task::Lookup(address) => lookups(row, address),
-        Task::Coverage => return coverages(row),
-        Task::Canonical => return canonicals(row),
-    })
+        Task::Coverage => coverages(row),
+        Task::Canonical => canonicals(row),
+    }
 }
 
 fn walks(row: &Row) -> [Run<'_>; 3] {
@@ -84,40 +81,28 @@ fn lookups(row: &Row, address: u64) -> [Run<'_>; 3] {
     }
 }
 
-#[cfg(not(sets))]
-fn coverages(_: &Row) -> Option<[Run<'_>; 3]> {
-    None
-}
-
-#[cfg(not(sets))]
-fn canonicals(_: &Row) -> Option<[Run<'_>; 3]> {
-    None
-}
-
-#[cfg(sets)]
-fn coverages(row: &Row) -> Option<[Run<'_>; 3]> {
+fn coverages(row: &Row) -> [Run<'_>; 3] {
     use bench_sets::Coverage;
     let (one, several) = (Lists::<Covering>::new(row), Lists::<RunTimeEndian>::new(row));
     let (mut found, mut found_several) = (Vec::new(), Vec::new());
     let mut made = Coverage::new();
-    Some([
+    [
         Box::new(move |passes| bench_port::coverage(row, &mut made, passes)),
         Box::new(move |passes| bench_sets::coverage(&one, &mut found, passes)),
         Box::new(move |passes| bench_sets::coverage(&several, &mut found_several, passes)),
-    ])
+    ]
 }
 
-#[cfg(sets)]
-fn canonicals(row: &Row) -> Option<[Run<'_>; 3]> {
+fn canonicals(row: &Row) -> [Run<'_>; 3] {
     let (one, several) = (Lists::<Writing>::new(row), Lists::<RunTimeEndian>::new(row));
     let (mut found, mut found_several) = (Vec::new(), Vec::new());
     let outputs = [(); 3].map(|_| vec![0; bench_sets::LONGEST]);
     let [mut a, mut b, mut c] = outputs;
-    Some([
+    [
         Box::new(move |passes| bench_port::canonical(row, &mut a, passes)),
         Box::new(move |passes| bench_sets::canonical(&one, &mut found, &mut b, passes)),
         Box::new(move |passes| bench_sets::canonical(&several, &mut found_several, &mut c, passes)),
-    ])
+    ]
 }
 
 /// Both sides must have read the same before anything is timed.
@@ -281,8 +266,7 @@ fn fail(message: &str) -> ! {
 }
 
 fn chosen(wanted: impl Fn(&str) -> bool) -> Vec<Row> {
-    let mut rows = bench_rows::rows(&wanted);
-    rows.retain(|row| sides(row).is_some());
+    let rows = bench_rows::rows(&wanted);
     if rows.is_empty() {
         fail("no row has such a name");
     }
@@ -295,7 +279,7 @@ fn table(filter: &str, settings: &Settings) {
     header();
     let mut all = Vec::new();
     for row in &rows {
-        let mut runs = sides(row).expect("chosen");
+        let mut runs = sides(row);
         check(row, &mut runs);
         let measured = measure(row, &mut runs, settings);
         print(&measured);
@@ -311,7 +295,7 @@ fn count(side: &str, wanted: &str, passes: &str) {
     };
     let Ok(passes) = passes.parse::<u64>() else { fail("not a number of passes") };
     let row = &chosen(|name| name == wanted)[0];
-    let mut runs = sides(row).expect("chosen");
+    let mut runs = sides(row);
     black_box(runs[side](passes));
     println!("{} entries", passes * row.entries);
 }
@@ -327,7 +311,7 @@ pub extern "C" fn bench_mark(section: u64) {
 fn marked(filter: &str) {
     for row in &chosen(|name| name.contains(filter)) {
         let passes = 1 + 2000 / row.entries;
-        let mut runs = sides(row).expect("chosen");
+        let mut runs = sides(row);
         for (side, run) in SIDES.iter().zip(&mut runs) {
             println!("{} {side} {}", row.name, passes * row.entries);
             black_box(run(1));

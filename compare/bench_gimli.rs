@@ -37,9 +37,7 @@ macro_rules! orders {
     };
 }
 
-orders! { Walking Seeking }
-#[cfg(sets)]
-orders! { Covering Writing }
+orders! { Walking Seeking Covering Writing }
 
 /// A byte order that the program chooses when it runs.
 pub trait Order: Endianity + From<RunTimeEndian> {}

@@ -2,49 +2,15 @@
 //! in the words, or one for the whole task. A walk is a function of its own, so
 //! that its loop is nothing but the call.
 
+#[allow(dead_code)]
+#[path = "../bindings/yeltzarun/ffi.rs"]
+#[rustfmt::skip]
+mod ffi;
+
 use crate::bench_rows::{Kind, Row};
+use crate::bench_sets::{Coverage, MOST as LIMIT, sum_of_bytes};
+use ffi::*;
 use std::hint::black_box;
-
-#[cfg(sets)]
-use crate::bench_sets::{Coverage, sum_of_bytes};
-
-type Four = [u64; 4];
-type Eight = [u64; 8];
-
-// A `&[u8]` is a pointer and a length, a `&mut [u64; n]` a pointer.
-macro_rules! calls {
-    ($($name:ident($($arg:ident: $type:ty),*) -> $out:ty;)*) => {
-        unsafe extern "C" {
-            $(fn $name($($arg: $type),*, out: &mut $out) -> u64;)*
-        }
-    };
-}
-
-calls! {
-    yz_range_open(s: *const u8, n: usize, offset: u64, size: u8, dwarf64: bool, version: u16,
-        base: u64) -> Four;
-    yz_range_next(s: *const u8, n: usize, t: *const u8, m: usize, table_base: u64, size: u8,
-        dwarf64: bool, version: u16, big: bool) -> Four;
-    yz_range_lookup(s: *const u8, n: usize, t: *const u8, m: usize, table_base: u64, offset: u64,
-        base: u64, size: u8, dwarf64: bool, version: u16, big: bool, address: u64) -> Four;
-    yz_location_open(s: *const u8, n: usize, offset: u64, size: u8, dwarf64: bool, version: u16,
-        base: u64) -> Four;
-    yz_location_next(s: *const u8, n: usize, t: *const u8, m: usize, table_base: u64, size: u8,
-        dwarf64: bool, version: u16, big: bool, split: bool) -> Eight;
-    yz_location_lookup(s: *const u8, n: usize, t: *const u8, m: usize, table_base: u64,
-        offset: u64, base: u64, size: u8, dwarf64: bool, version: u16, big: bool, split: bool,
-        address: u64) -> Eight;
-}
-
-#[cfg(sets)]
-calls! {
-    yz_range_coverage(s: *const u8, n: usize, t: *const u8, m: usize, table_base: u64, offset: u64,
-        base: u64, size: u8, dwarf64: bool, version: u16, big: bool, begins: &mut [u64; 1024],
-        ends: &mut [u64; 1024]) -> Four;
-    yz_range_canonical(s: *const u8, n: usize, t: *const u8, m: usize, table_base: u64,
-        offset: u64, base: u64, size: u8, dwarf64: bool, version: u16, big: bool, output: *mut u8,
-        length: usize) -> Four;
-}
 
 const ITEM: u64 = 0;
 const END: u64 = 1;
@@ -163,7 +129,6 @@ fn lookup_location_once(row: &Row, address: u64) -> u64 {
     }
 }
 
-#[cfg(sets)]
 #[inline(never)]
 pub fn coverage(row: &Row, made: &mut Coverage, passes: u64) -> u64 {
     repeat!(passes, {
@@ -173,7 +138,6 @@ pub fn coverage(row: &Row, made: &mut Coverage, passes: u64) -> u64 {
     made.sum()
 }
 
-#[cfg(sets)]
 #[inline(always)]
 fn coverage_once(row: &Row, made: &mut Coverage) {
     let (s, n, t, m) = lent(row);
@@ -192,7 +156,6 @@ fn coverage_once(row: &Row, made: &mut Coverage) {
     made.n = words[0];
 }
 
-#[cfg(sets)]
 #[inline(never)]
 pub fn canonical(row: &Row, output: &mut [u8], passes: u64) -> u64 {
     let written = repeat!(passes, {
@@ -203,7 +166,6 @@ pub fn canonical(row: &Row, output: &mut [u8], passes: u64) -> u64 {
     sum_of_bytes(&output[..written as usize])
 }
 
-#[cfg(sets)]
 #[inline(always)]
 fn canonical_once(row: &Row, output: &mut [u8]) -> u64 {
     let (s, n, t, m) = lent(row);

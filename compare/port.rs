@@ -1,98 +1,19 @@
-//! The port through its C interface: crate `ffi`'s static library, whose
-//! `src/lib.rt` says what each word is.
+//! The port through its C interface. `crates/ffi_words/src/lib.rt` says what
+//! each word is.
 
-use crate::added::{Added, Kept, MOST, Wrote};
+#[allow(dead_code)]
+#[path = "../bindings/yeltzarun/ffi.rs"]
+#[rustfmt::skip]
+mod ffi;
+
+use crate::added::{Added, Kept, MOST as LIMIT, Wrote};
 use crate::differ::{Found, Port};
+use ffi::*;
 use oracle::oracle_api::{
     Answer, Converted, Form, Kind, List, Lists, Place, Raw, Refusal, State, Table, Yielded,
 };
 
 pub struct Ffi;
-
-type Four = [u64; 4];
-type Eight = [u64; 8];
-
-// A `&[u8]` is a pointer and a length, a `&mut [u64; n]` a pointer.
-macro_rules! calls {
-    ($($name:ident($($arg:ident: $type:ty),*) -> $out:ty;)*) => {
-        unsafe extern "C" {
-            $(fn $name($($arg: $type),*, out: &mut $out) -> u64;)*
-        }
-    };
-}
-
-calls! {
-    yz_range_open(s: *const u8, n: usize, offset: u64, size: u8, dwarf64: bool, version: u16,
-        base: u64) -> Four;
-    yz_range_next(s: *const u8, n: usize, t: *const u8, m: usize, table_base: u64, size: u8,
-        dwarf64: bool, version: u16, big: bool) -> Four;
-    yz_range_next_raw(s: *const u8, n: usize, size: u8, dwarf64: bool, version: u16,
-        big: bool) -> Eight;
-    yz_range_convert_raw(t: *const u8, m: usize, table_base: u64, size: u8, dwarf64: bool,
-        version: u16, big: bool) -> Eight;
-    yz_range_lookup(s: *const u8, n: usize, t: *const u8, m: usize, table_base: u64, offset: u64,
-        base: u64, size: u8, dwarf64: bool, version: u16, big: bool, address: u64) -> Four;
-    yz_location_open(s: *const u8, n: usize, offset: u64, size: u8, dwarf64: bool, version: u16,
-        base: u64) -> Four;
-    yz_location_next(s: *const u8, n: usize, t: *const u8, m: usize, table_base: u64, size: u8,
-        dwarf64: bool, version: u16, big: bool, split: bool) -> Eight;
-    yz_location_next_raw(s: *const u8, n: usize, size: u8, dwarf64: bool, version: u16, big: bool,
-        split: bool) -> Eight;
-    yz_location_convert_raw(t: *const u8, m: usize, table_base: u64, size: u8, dwarf64: bool,
-        version: u16, big: bool) -> Eight;
-    yz_location_lookup(s: *const u8, n: usize, t: *const u8, m: usize, table_base: u64,
-        offset: u64, base: u64, size: u8, dwarf64: bool, version: u16, big: bool, split: bool,
-        address: u64) -> Eight;
-    yz_get_address(t: *const u8, m: usize, size: u8, base: u64, index: u64, big: bool) -> Four;
-    yz_table_next(t: *const u8, m: usize, big: bool) -> Eight;
-    yz_table_entry_next(t: *const u8, m: usize, size: u8, big: bool) -> Four;
-    yz_lists_header(s: *const u8, n: usize, at: usize, big: bool) -> Eight;
-    yz_range_get_offset(s: *const u8, n: usize, dwarf64: bool, base: u64, index: u64,
-        big: bool) -> Four;
-    yz_location_get_offset(s: *const u8, n: usize, dwarf64: bool, base: u64, index: u64,
-        big: bool) -> Four;
-    yz_uleb128(s: *const u8, n: usize, at: usize) -> Four;
-    yz_read_u8(s: *const u8, n: usize, at: usize) -> Four;
-    yz_read_u16(s: *const u8, n: usize, at: usize, big: bool) -> Four;
-    yz_read_u32(s: *const u8, n: usize, at: usize, big: bool) -> Four;
-    yz_read_u64(s: *const u8, n: usize, at: usize, big: bool) -> Four;
-    yz_read_address(s: *const u8, n: usize, at: usize, size: u8, big: bool) -> Four;
-    yz_read_address_size(s: *const u8, n: usize, at: usize) -> Four;
-    yz_read_offset(s: *const u8, n: usize, at: usize, dwarf64: bool, big: bool) -> Four;
-    yz_initial_length(s: *const u8, n: usize, at: usize, big: bool) -> Four;
-    yz_skip(s: *const u8, n: usize, at: usize, count: u64) -> Four;
-    yz_split(s: *const u8, n: usize, at: usize, count: u64) -> Four;
-    yz_truncate(s: *const u8, n: usize, at: usize, count: u64) -> Four;
-}
-
-type Places = [u64; MOST];
-
-calls! {
-    yz_range_coverage(s: *const u8, n: usize, t: *const u8, m: usize, table_base: u64, offset: u64,
-        base: u64, size: u8, dwarf64: bool, version: u16, big: bool, begins: &mut Places,
-        ends: &mut Places) -> Four;
-    yz_location_coverage(s: *const u8, n: usize, t: *const u8, m: usize, table_base: u64,
-        offset: u64, base: u64, size: u8, dwarf64: bool, version: u16, big: bool, split: bool,
-        begins: &mut Places, ends: &mut Places) -> Four;
-    yz_coverage_from_canonical(s: *const u8, n: usize, begins: &mut Places,
-        ends: &mut Places) -> Four;
-    yz_coverage_from_sheet(s: *const u8, n: usize, begins: &mut Places, ends: &mut Places) -> Four;
-    yz_sheet(count: u64, begins: &Places, ends: &Places, o: *mut u8, k: usize) -> Four;
-    yz_canonical(count: u64, begins: &Places, ends: &Places, o: *mut u8, k: usize) -> Four;
-    yz_range_canonical(s: *const u8, n: usize, t: *const u8, m: usize, table_base: u64,
-        offset: u64, base: u64, size: u8, dwarf64: bool, version: u16, big: bool, o: *mut u8,
-        k: usize) -> Four;
-    yz_location_canonical(s: *const u8, n: usize, t: *const u8, m: usize, table_base: u64,
-        offset: u64, base: u64, size: u8, dwarf64: bool, version: u16, big: bool, split: bool,
-        o: *mut u8, k: usize) -> Four;
-}
-
-unsafe extern "C" {
-    fn yz_range_default_base(dwarf64: bool, version: u16, split: bool) -> u64;
-    fn yz_location_default_base(dwarf64: bool, version: u16, split: bool) -> u64;
-    fn yz_wrapping_add_sized(address: u64, length: u64, size: u8) -> u64;
-    fn yz_min_tombstone(size: u8) -> u64;
-}
 
 /// What words hold before a call that hands none in: a call must write all.
 const OLD: u64 = 0x5555_5555_5555_5555;
@@ -377,9 +298,9 @@ impl Port for Ffi {
 
     fn default_base(&self, kind: Kind, version: u16, dwarf64: bool, split_file: bool) -> u64 {
         if kind == Kind::Ranges {
-            unsafe { yz_range_default_base(dwarf64, version, split_file) }
+            yz_range_default_base(dwarf64, version, split_file)
         } else {
-            unsafe { yz_location_default_base(dwarf64, version, split_file) }
+            yz_location_default_base(dwarf64, version, split_file)
         }
     }
 
@@ -450,11 +371,11 @@ impl Port for Ffi {
     }
 
     fn wrapping_add_sized(&self, address: u64, length: u64, size: u8) -> u64 {
-        unsafe { yz_wrapping_add_sized(address, length, size) }
+        yz_wrapping_add_sized(address, length, size)
     }
 
     fn min_tombstone(&self, size: u8) -> u64 {
-        unsafe { yz_min_tombstone(size) }
+        yz_min_tombstone(size)
     }
 }
 
