@@ -1,10 +1,10 @@
-/* Range lists, location lists and address tables of DWARF 2 to 5: the interface for C99 and C++.
+/* Range lists, location lists and address tables of DWARF 3 to 5: the interface for C99 and C++.
  *
  * Every call ends, reads no byte outside the bytes that it is lent, and answers every input; nothing has to be checked
  * before it. The caller sees to it that a pointer and its length name readable bytes (the pointer may be NULL where the
- * length is 0), that a pointer to words is not NULL and not lent twice in one call, and that no other thread writes what
- * is lent. The library is for x86-64: size_t has 64 bits. The calls over coverages take about 100 KB of stack, the others
- * less than 1 KB.
+ * length is 0), that a pointer to words or bounds is not NULL, that what a call writes to can be written and shares no byte
+ * with anything else that it is lent, and that no other thread writes what is lent. The library is for x86-64: size_t has 64
+ * bits. The calls over coverages take about 100 KB of stack, the others less than 1 KB.
  *
  * A call gives one of the result codes and fills the words of its array. With YZ_REFUSED, w[2] has the refusal's number and
  * w[3] its value, 0 where it has none. Words that are not named are 0.
@@ -154,8 +154,9 @@ uint64_t yz_location_get_offset(const uint8_t *debug_loclists, size_t debug_locl
 /* The base of .debug_loclists where no attribute gives one: the answer itself. */
 uint64_t yz_location_default_base(bool dwarf64, uint16_t version, bool split);
 
-/* ---- Walks: w[0] the place, w[1] the base address, in and out. After a refusal that is not an address table's the walk
- * is at its end; after a failed lookup in the address table it goes on with the entry that follows. ---- */
+/* ---- Walks: w[0] the place, w[1] the base address, in and out. After a refusal of .._next or .._next_raw that is not the
+ * address table's the walk is at its end; after a failed lookup in the address table it goes on with the entry that follows.
+ * A refusal of .._convert_raw leaves the walk as it was. ---- */
 
 /* A walk at the begin of a range list: w[0], w[1]. Refused: 6, 1. */
 uint64_t yz_range_open(const uint8_t *section, size_t section_len, uint64_t offset, uint8_t address_size, bool dwarf64,

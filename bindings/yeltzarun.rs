@@ -1,5 +1,5 @@
-//! Range lists, location lists and address tables of DWARF 2 to 5: crate `ffi`'s static library
-//! behind the names of gimli.
+//! Range lists, location lists and address tables of DWARF 3 to 5: the static library that
+//! `build-library` makes, behind the names of gimli.
 //!
 //! Every call ends and answers every input; what can't be read gets a numbered [`Error`]. A section
 //! is a lent slice with a byte order. Where a list is read with an address table, the list's byte
