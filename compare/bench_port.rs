@@ -2,6 +2,7 @@
 //! in the words, or one for the whole task. A walk is a function of its own, so
 //! that its loop is nothing but the call.
 
+// The declarations of the wrapper, which take LIMIT from here.
 #[allow(dead_code)]
 #[path = "../bindings/yeltzarun/ffi.rs"]
 #[rustfmt::skip]

@@ -1,6 +1,7 @@
 //! The port through its C interface. `crates/ffi_words/src/lib.rt` says what
 //! each word is.
 
+// The declarations of the wrapper, which take LIMIT from here.
 #[allow(dead_code)]
 #[path = "../bindings/yeltzarun/ffi.rs"]
 #[rustfmt::skip]
