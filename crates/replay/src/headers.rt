@@ -204,7 +204,7 @@ fn walk_headers(table: &[u8], endian: RunTimeEndian) {
     }
 }
 
-pub fn answer(call: Call, table: &[u8]) {
+pub(crate) fn answer(call: Call, table: &[u8]) {
     let endian = call.endian;
     let what = call.what;
     match what {

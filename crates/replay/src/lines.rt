@@ -93,7 +93,7 @@ fn octet(high: u8, low: u8) -> u64
 }
 
 // Puts a section's bytes at the start of out, and answers how many there are.
-pub fn octets(line: &[u8], start: usize, out: &mut [u8; ROOM]) -> Took {
+pub(crate) fn octets(line: &[u8], start: usize, out: &mut [u8; ROOM]) -> Took {
     if line.len() <= start {
         return Took::Bad;
     }
@@ -184,7 +184,7 @@ fn numbers(line: &[u8], words: &mut [u64; 9]) -> Took {
 }
 
 // The call that a line begins with; its sections follow.
-pub fn parse(line: &[u8]) -> Parsed {
+pub(crate) fn parse(line: &[u8]) -> Parsed {
     let mut words = [0u64; 9];
     let Took::Got(_, at) = numbers(line, &mut words) else {
         return Parsed::Bad;
@@ -196,6 +196,6 @@ pub fn parse(line: &[u8]) -> Parsed {
 }
 
 // The first n bytes.
-pub fn first(section: &[u8; ROOM], n: u64) -> &[u8] {
+pub(crate) fn first(section: &[u8; ROOM], n: u64) -> &[u8] {
     bytes::reader::part(section, 0, n as usize)
 }

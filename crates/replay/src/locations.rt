@@ -37,7 +37,7 @@ fn next_answer(r: LocAnswer) -> Turn {
     }
 }
 
-pub fn next(section: &[u8], table: &[u8], call: Call, walk: Walk) -> Turn {
+pub(crate) fn next(section: &[u8], table: &[u8], call: Call, walk: Walk) -> Turn {
     let encoding = call.encoding;
     let endian = call.endian;
     let base = DebugAddrBase(call.c);
@@ -75,7 +75,7 @@ fn raw_answer(r: RawLocAnswer) -> Turn {
     }
 }
 
-pub fn next_raw(section: &[u8], call: Call, walk: Walk) -> Turn {
+pub(crate) fn next_raw(section: &[u8], call: Call, walk: Walk) -> Turn {
     let encoding = call.encoding;
     let endian = call.endian;
     let split = is_split(call);
@@ -83,7 +83,7 @@ pub fn next_raw(section: &[u8], call: Call, walk: Walk) -> Turn {
 }
 
 // A raw entry, and what it comes to.
-pub fn next_converted(section: &[u8], table: &[u8], call: Call, walk: Walk) -> Turn {
+pub(crate) fn next_converted(section: &[u8], table: &[u8], call: Call, walk: Walk) -> Turn {
     let encoding = call.encoding;
     let endian = call.endian;
     let split = is_split(call);
@@ -106,7 +106,7 @@ fn found(r: LocationFound) {
     }
 }
 
-pub fn look_up(section: &[u8], table: &[u8], call: Call) {
+pub(crate) fn look_up(section: &[u8], table: &[u8], call: Call) {
     let encoding = call.encoding;
     let endian = call.endian;
     let base = DebugAddrBase(call.c);

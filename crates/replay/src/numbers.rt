@@ -93,7 +93,7 @@ fn default_bases(call: Call) {
 }
 
 // False where there is no such call.
-pub fn answer(call: Call, s: &[u8]) -> bool {
+pub(crate) fn answer(call: Call, s: &[u8]) -> bool {
     let what = call.what;
     match what {
         17 => show::num(bytes::leb128::unsigned(s, 0)),

@@ -12,7 +12,7 @@ use lists::rnglists::RngAnswer;
 use lists::rnglists::RngConverted;
 use lookups::RangeFound;
 
-pub fn form(x: RawRngListEntry) -> Form {
+pub(crate) fn form(x: RawRngListEntry) -> Form {
     match x {
         RawRngListEntry::AddressOrOffsetPair(a, b) => Form { code: 0, a, b },
         RawRngListEntry::BaseAddress(a) => Form { code: 1, a, b: 0 },
@@ -41,7 +41,7 @@ fn next_answer(r: RngAnswer) -> Turn {
     }
 }
 
-pub fn next(section: &[u8], table: &[u8], call: Call, walk: Walk) -> Turn {
+pub(crate) fn next(section: &[u8], table: &[u8], call: Call, walk: Walk) -> Turn {
     let encoding = call.encoding;
     let endian = call.endian;
     let base = DebugAddrBase(call.c);
@@ -76,14 +76,14 @@ fn raw_answer(r: RawRngAnswer) -> Turn {
     }
 }
 
-pub fn next_raw(section: &[u8], call: Call, walk: Walk) -> Turn {
+pub(crate) fn next_raw(section: &[u8], call: Call, walk: Walk) -> Turn {
     let encoding = call.encoding;
     let endian = call.endian;
     raw_answer(lists::rnglists::next_raw(section, walk, encoding, endian))
 }
 
 // A raw entry, and what it comes to.
-pub fn next_converted(section: &[u8], table: &[u8], call: Call, walk: Walk) -> Turn {
+pub(crate) fn next_converted(section: &[u8], table: &[u8], call: Call, walk: Walk) -> Turn {
     let encoding = call.encoding;
     let endian = call.endian;
     let r = lists::rnglists::next_raw(section, walk, encoding, endian);
@@ -105,7 +105,7 @@ fn found(r: RangeFound) {
     }
 }
 
-pub fn look_up(section: &[u8], table: &[u8], call: Call) {
+pub(crate) fn look_up(section: &[u8], table: &[u8], call: Call) {
     let encoding = call.encoding;
     let endian = call.endian;
     let base = DebugAddrBase(call.c);

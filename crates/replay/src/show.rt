@@ -9,35 +9,35 @@ use lists::Range;
 use lists::Walk;
 ghost use Prim.Native.Nat.{_<_};
 
-pub fn say(text: &[u8]) {
+pub(crate) fn say(text: &[u8]) {
     io::write_all(STDOUT_FILENO, text);
 }
 
-pub fn put(n: u64) {
+pub(crate) fn put(n: u64) {
     say(b" ");
     io::print_hex(STDOUT_FILENO, n, 1);
 }
 
-pub fn end_line() {
+pub(crate) fn end_line() {
     say(b"\n");
 }
 
-pub fn one(name: &[u8], a: u64) {
+pub(crate) fn one(name: &[u8], a: u64) {
     say(name);
     put(a);
 }
 
-pub fn two(name: &[u8], a: u64, b: u64) {
+pub(crate) fn two(name: &[u8], a: u64, b: u64) {
     one(name, a);
     put(b);
 }
 
-pub fn expression(x: Expression) {
+pub(crate) fn expression(x: Expression) {
     two(b" expression", x.offset as u64, x.len as u64);
 }
 
 // The refusal's number, and its value, 0 where it has none.
-pub fn refused(e: Error) {
+pub(crate) fn refused(e: Error) {
     two(b"refused", e.number(), e.value());
 }
 
@@ -62,7 +62,7 @@ fn say_form(code: u64) {
     }
 }
 
-pub fn raw(x: Form) {
+pub(crate) fn raw(x: Form) {
     say_form(x.code);
     put(x.a);
     put(x.b);
@@ -74,48 +74,48 @@ pub struct Turn {
     pub ended: bool,
 }
 
-pub fn stands(walk: Walk) -> Turn {
+pub(crate) fn stands(walk: Walk) -> Turn {
     one(b" at", walk.at as u64);
     one(b" base", walk.base_address);
     end_line();
     Turn { walk, ended: false }
 }
 
-pub fn ended(walk: Walk) -> Turn {
+pub(crate) fn ended(walk: Walk) -> Turn {
     say(b"end");
     stands(walk);
     Turn { walk, ended: true }
 }
 
-pub fn refused_at(e: Error, walk: Walk) -> Turn {
+pub(crate) fn refused_at(e: Error, walk: Walk) -> Turn {
     refused(e);
     stands(walk)
 }
 
-pub fn nothing(walk: Walk) -> Turn {
+pub(crate) fn nothing(walk: Walk) -> Turn {
     say(b"nothing");
     stands(walk)
 }
 
-pub fn range(x: Range, walk: Walk) -> Turn {
+pub(crate) fn range(x: Range, walk: Walk) -> Turn {
     two(b"range", x.begin, x.end);
     stands(walk)
 }
 
-pub fn located(x: LocationListEntry) {
+pub(crate) fn located(x: LocationListEntry) {
     let span = x.range;
     let data = x.data;
     two(b"location", span.begin, span.end);
     expression(data);
 }
 
-pub fn location(x: LocationListEntry, walk: Walk) -> Turn {
+pub(crate) fn location(x: LocationListEntry, walk: Walk) -> Turn {
     located(x);
     stands(walk)
 }
 
 // How many calls a walk still gets: one more after the end was said.
-pub fn fewer(left: u64, ended: bool) -> u64
+pub(crate) fn fewer(left: u64, ended: bool) -> u64
     requires { ⌜ 0 < left ⌝ }
     ensures { λ r. ⌜ r < left ⌝ }
 {
@@ -130,17 +130,17 @@ pub fn fewer(left: u64, ended: bool) -> u64
 // The calls that a walk gets at most.
 pub const CALLS: u64 = 64;
 
-pub fn refusal(e: Error) {
+pub(crate) fn refusal(e: Error) {
     refused(e);
     end_line();
 }
 
-pub fn value(n: u64) {
+pub(crate) fn value(n: u64) {
     one(b"value", n);
     end_line();
 }
 
-pub fn num(r: Num) {
+pub(crate) fn num(r: Num) {
     match r {
         Num::Got(n, c) => {
             two(b"value", n, c as u64);
@@ -151,7 +151,7 @@ pub fn num(r: Num) {
 }
 
 // Where an opened walk stands; a refused opening is no walk.
-pub fn opened(r: Opened) {
+pub(crate) fn opened(r: Opened) {
     match r {
         Opened::List(walk) => {
             say(b"opened");

@@ -61,7 +61,7 @@ fn open_and_walk(section: &[u8], table: &[u8], call: Call) {
     }
 }
 
-pub fn answer<'a>(call: Call, old: &'a [u8], new: &'a [u8], table: &[u8]) {
+pub(crate) fn answer<'a>(call: Call, old: &'a [u8], new: &'a [u8], table: &[u8]) {
     let s = section(call, old, new);
     let what = call.what;
     match what {

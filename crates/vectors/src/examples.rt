@@ -61,7 +61,7 @@ fn headers_of(table: &[u8]) {
     }
 }
 
-pub fn table() {
+pub(crate) fn table() {
     let table = [
         0x0cu8,
         0,
@@ -98,7 +98,7 @@ fn range_offset(section: &[u8], label: &[u8], index: u64) {
     show::range_offset(label, r);
 }
 
-pub fn offsets() {
+pub(crate) fn offsets() {
     let section = [0u8, 0, 0, 0, 0x08, 0, 0, 0, 0x10, 0, 0, 0];
     range_offset(&section, b"range offset 0:", 0);
     range_offset(&section, b"range offset 1:", 1);
@@ -119,13 +119,13 @@ fn tenth(label: &[u8], byte: u8) {
     show::num(label, r);
 }
 
-pub fn numbers() {
+pub(crate) fn numbers() {
     tenth(b"LEB128, tenth byte 01:", 0x01);
     tenth(b"LEB128, tenth byte 00:", 0x00);
     tenth(b"LEB128, tenth byte 02:", 0x02);
 }
 
-pub fn orders() {
+pub(crate) fn orders() {
     let s = [0x01u8, 0x02, 0x03, 0x04, 0x05, 0x06, 0x07, 0x08];
     show::num(b"1 byte:", bytes::reader::read_u8(&s, 0));
     show::num(
@@ -154,7 +154,7 @@ pub fn orders() {
     );
 }
 
-pub fn addresses() {
+pub(crate) fn addresses() {
     show::value(b"ones, size 1:", bytes::address::ones_sized(1));
     show::value(b"ones, size 8:", bytes::address::ones_sized(8));
     show::value(
@@ -184,7 +184,7 @@ fn expression_byte(s: &[u8]) {
     show::end_line();
 }
 
-pub fn entries() {
+pub(crate) fn entries() {
     let p = encoding(5, 4);
     let start_end = [0x06u8, 0x10, 0, 0, 0, 0x20, 0, 0, 0, 0];
     let r = entries::rnglists::raw_range_entry(&start_end, 0, p, RunTimeEndian::Little);
@@ -197,14 +197,14 @@ pub fn entries() {
     expression_byte(&default);
 }
 
-pub fn split() {
+pub(crate) fn split() {
     let split = [0x03u8, 0x00, 0x08, 0, 0, 0, 0x01, 0x00, 0x50, 0x00];
     let p4 = encoding(4, 4);
     let r3 = entries::loclists::raw_location_entry(&split, 0, p4, RunTimeEndian::Little, true);
     show::location(b"split location:", r3);
 }
 
-pub fn pairs() {
+pub(crate) fn pairs() {
     let pairs = [0xffu8, 0xff, 0x00, 0x20, 0x01, 0x00, 0x03, 0x00, 0, 0, 0, 0];
     let p2 = encoding(4, 2);
     let r4 = entries::rnglists::raw_range_entry(&pairs, 0, p2, RunTimeEndian::Little);

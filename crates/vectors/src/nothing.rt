@@ -18,7 +18,7 @@ const MOST: u64 = u64::MAX;
 
 const FAR: usize = usize::MAX;
 
-pub fn skips() {
+pub(crate) fn skips() {
     let s = b"";
     show::place(b"no bytes, skip:", bytes::reader::skip(s, FAR, MOST));
     show::split(b"no bytes, split:", bytes::reader::split(s, FAR, MOST));
@@ -30,7 +30,7 @@ pub fn skips() {
     show::value(b"no bytes, part:", part.len() as u64);
 }
 
-pub fn reads() {
+pub(crate) fn reads() {
     let s = b"";
     show::num(b"no bytes, u8:", bytes::reader::read_u8(s, FAR));
     show::num(
@@ -59,7 +59,7 @@ pub fn reads() {
     );
 }
 
-pub fn numbers() {
+pub(crate) fn numbers() {
     let s = b"";
     show::initial_length(
         b"no bytes, initial length:",
@@ -72,7 +72,7 @@ pub fn numbers() {
     );
 }
 
-pub fn tables() {
+pub(crate) fn tables() {
     let s = b"";
     show::lists(
         b"no bytes, header of lists:",
@@ -94,7 +94,7 @@ pub fn tables() {
     show::next_entry(b"no bytes, table entries:", v.next(s, RunTimeEndian::Big));
 }
 
-pub fn rows() {
+pub(crate) fn rows() {
     let s = b"";
     show::address(
         b"no bytes, table row:",
@@ -128,7 +128,7 @@ pub fn rows() {
     );
 }
 
-pub fn lists() {
+pub(crate) fn lists() {
     let s = b"";
     let p = encoding(65535, 255);
     show::range(

@@ -7,7 +7,7 @@ use bytes::common::Format;
 use bytes::endianity::RunTimeEndian;
 use tables::lists::ListsHeader;
 
-pub fn encoding(version: u16, address_size: u8) -> Encoding {
+pub(crate) fn encoding(version: u16, address_size: u8) -> Encoding {
     Encoding {
         address_size,
         format: Format::Dwarf32,
@@ -15,7 +15,7 @@ pub fn encoding(version: u16, address_size: u8) -> Encoding {
     }
 }
 
-pub fn missing() {
+pub(crate) fn missing() {
     let p = encoding(5, 4);
     let address = [0x10u8, 0x00];
     let r = bytes::reader::read_address(&address, 0, 4, RunTimeEndian::Little);
@@ -40,7 +40,7 @@ pub fn missing() {
     show::range(b"row 2:", r2);
 }
 
-pub fn kinds() {
+pub(crate) fn kinds() {
     let p = encoding(5, 4);
     let eight = [0x08u8];
     let r3 = entries::rnglists::raw_range_entry(&eight, 0, p, RunTimeEndian::Little);
@@ -50,7 +50,7 @@ pub fn kinds() {
     show::location(b"row 4:", r4);
 }
 
-pub fn headers() {
+pub(crate) fn headers() {
     let version = [0x08u8, 0, 0, 0, 0x04, 0, 0x04, 0, 0, 0, 0, 0];
     let r5 = ListsHeader::parse(&version, 0, RunTimeEndian::Little);
     show::lists(b"row 5:", r5);
@@ -62,7 +62,7 @@ pub fn headers() {
     show::lists(b"row 7:", r7);
 }
 
-pub fn lengths() {
+pub(crate) fn lengths() {
     let reserved = [0xf0u8, 0xff, 0xff, 0xff];
     let r8 = bytes::reader::read_initial_length(&reserved, 0, RunTimeEndian::Little);
     show::initial_length(b"row 8:", r8);

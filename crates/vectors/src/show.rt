@@ -18,16 +18,16 @@ use tables::lists::ListsAnswer;
 use tables::loclists::LocationOffsetAnswer;
 use tables::rnglists::RangeOffsetAnswer;
 
-pub fn say(text: &[u8]) {
+pub(crate) fn say(text: &[u8]) {
     io::write_all(STDOUT_FILENO, text);
 }
 
-pub fn put(n: u64) {
+pub(crate) fn put(n: u64) {
     say(b" ");
     io::print_decimal(STDOUT_FILENO, n);
 }
 
-pub fn end_line() {
+pub(crate) fn end_line() {
     say(b"\n");
 }
 
@@ -36,7 +36,7 @@ fn field(name: &[u8], n: u64) {
     put(n);
 }
 
-pub fn refused(e: Error) {
+pub(crate) fn refused(e: Error) {
     field(b" refused", e.number());
     match e {
         Error::UnknownRangeListsEntry(v) => put(v),
@@ -53,7 +53,7 @@ fn next(c: usize) {
     field(b" next", c as u64);
 }
 
-pub fn num(label: &[u8], r: Num) {
+pub(crate) fn num(label: &[u8], r: Num) {
     say(label);
     match r {
         Num::Got(v, c) => {
@@ -65,13 +65,13 @@ pub fn num(label: &[u8], r: Num) {
     end_line();
 }
 
-pub fn value(label: &[u8], n: u64) {
+pub(crate) fn value(label: &[u8], n: u64) {
     say(label);
     put(n);
     end_line();
 }
 
-pub fn place(label: &[u8], r: Place) {
+pub(crate) fn place(label: &[u8], r: Place) {
     say(label);
     match r {
         Place::At(c) => put(c as u64),
@@ -80,7 +80,7 @@ pub fn place(label: &[u8], r: Place) {
     end_line();
 }
 
-pub fn split(label: &[u8], r: Split) {
+pub(crate) fn split(label: &[u8], r: Split) {
     say(label);
     match r {
         Split::Got(x, c) => {
@@ -93,7 +93,7 @@ pub fn split(label: &[u8], r: Split) {
     end_line();
 }
 
-pub fn initial_length(label: &[u8], r: InitialLength) {
+pub(crate) fn initial_length(label: &[u8], r: InitialLength) {
     say(label);
     match r {
         InitialLength::Got(u, c) => {
@@ -105,7 +105,7 @@ pub fn initial_length(label: &[u8], r: InitialLength) {
     end_line();
 }
 
-pub fn lists(label: &[u8], r: ListsAnswer) {
+pub(crate) fn lists(label: &[u8], r: ListsAnswer) {
     say(label);
     match r {
         ListsAnswer::Header(h, rest) => {
@@ -120,7 +120,7 @@ pub fn lists(label: &[u8], r: ListsAnswer) {
     end_line();
 }
 
-pub fn address(label: &[u8], r: AddressAnswer) {
+pub(crate) fn address(label: &[u8], r: AddressAnswer) {
     say(label);
     match r {
         AddressAnswer::Address(a) => put(a),
@@ -129,7 +129,7 @@ pub fn address(label: &[u8], r: AddressAnswer) {
     end_line();
 }
 
-pub fn range_offset(label: &[u8], r: RangeOffsetAnswer) {
+pub(crate) fn range_offset(label: &[u8], r: RangeOffsetAnswer) {
     say(label);
     match r {
         RangeOffsetAnswer::Offset(x) => put(x.0),
@@ -138,7 +138,7 @@ pub fn range_offset(label: &[u8], r: RangeOffsetAnswer) {
     end_line();
 }
 
-pub fn location_offset(label: &[u8], r: LocationOffsetAnswer) {
+pub(crate) fn location_offset(label: &[u8], r: LocationOffsetAnswer) {
     say(label);
     match r {
         LocationOffsetAnswer::Offset(x) => put(x.0),
@@ -147,7 +147,7 @@ pub fn location_offset(label: &[u8], r: LocationOffsetAnswer) {
     end_line();
 }
 
-pub fn table_header(label: &[u8], r: AddrHeaderAnswer) {
+pub(crate) fn table_header(label: &[u8], r: AddrHeaderAnswer) {
     say(label);
     match r {
         AddrHeaderAnswer::Header(h, c) => {
@@ -164,7 +164,7 @@ pub fn table_header(label: &[u8], r: AddrHeaderAnswer) {
     end_line();
 }
 
-pub fn next_header(label: &[u8], r: NextHeader) {
+pub(crate) fn next_header(label: &[u8], r: NextHeader) {
     say(label);
     match r {
         NextHeader::Header(_, w) => next(w.at),
@@ -176,7 +176,7 @@ pub fn next_header(label: &[u8], r: NextHeader) {
     end_line();
 }
 
-pub fn next_entry(label: &[u8], r: NextEntry) {
+pub(crate) fn next_entry(label: &[u8], r: NextEntry) {
     say(label);
     match r {
         NextEntry::Address(a, _) => put(a),
@@ -207,7 +207,7 @@ fn range_entry(x: RawRngListEntry) {
     }
 }
 
-pub fn range(label: &[u8], r: RngStep) {
+pub(crate) fn range(label: &[u8], r: RngStep) {
     say(label);
     match r {
         RngStep::Entry(x, c) => {
@@ -237,7 +237,7 @@ fn location_entry(x: RawLocListEntry) {
     }
 }
 
-pub fn location(label: &[u8], r: LocStep) {
+pub(crate) fn location(label: &[u8], r: LocStep) {
     say(label);
     match r {
         LocStep::Entry(x, c) => {
