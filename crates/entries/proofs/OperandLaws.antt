@@ -1,6 +1,6 @@
 -- The operands of an entry, one at a time: each is there and the others follow, or its refusal is the answer.
 -- Assumes nothing.
-use mathlib.Core.Path.{_≡_, refl, ap, _∙_}
+use mathlib.Core.Path.{_≡_, refl, ap}
 use mathlib.Core.Bool.{Bool, true, false}
 use mathlib.Core.List.{List}
 use Prim.Native.Nat.{ℕ, _+_, _≤_, _<_}
@@ -78,23 +78,27 @@ cut-picked : (b : Bool) (n at : ℕ) {x : Span} {d : ℕ}
 cut-picked true n at h = (refl, cc)
 cut-picked false n at h = let z : _≡_ {A = ℕ} 0 1 = cc in absurd (omega arith)
 
--- an expression: its length is there, and so are its bytes, or not
+-- an expression: its length is there, or not
+pub length-is : (p : Encoding) (endian : RunTimeEndian) (start : ℕ) (s : List ℕ) (at : ℕ) {n c : ℕ} → byVersion 2 p endian s at ≡ got n c
+    → operand p endian start s expression at ≡ block start s n c
+length-is p endian start s at h = rw h
+
 module _ (p : Encoding) (endian : RunTimeEndian) (start : ℕ) (s : List ℕ) (at : ℕ) {r : Num} (h : told r ≡ byVersion 2 p endian s at) where
   pub length-refused : {x : Error} → r ≡ num.Refused x → operand p endian start s expression at ≡ refusal x
   length-refused q = rw (← h, q)
 
-  module _ {n c : ℕ} (q : r ≡ num.Got n c) where
-    length-got : operand p endian start s expression at ≡ block start s n c
-    length-got = rw (← h, q)
+  pub length-got : {n c : ℕ} → r ≡ num.Got n c → operand p endian start s expression at ≡ block start s n c
+  length-got q = rw (← h, q)
 
-    module _ {r1 : Split} (h1 : toldSplit r1 ≡ split n s c) where
-      pub block-short : {x : Error} → r1 ≡ cut.Refused x → operand p endian start s expression at ≡ refusal x
-      unfolding block
-      block-short l = length-got ∙ rw (← h1, l)
+-- and so are its bytes, or not
+module _ (start n : ℕ) (s : List ℕ) (c : ℕ) {r : Split} (h : toldSplit r ≡ split n s c) where
+  pub block-short : {x : Error} → r ≡ cut.Refused x → block start s n c ≡ refusal x
+  unfolding block
+  block-short l = rw (← h, l)
 
-      pub block-there : {x : Span} {d : ℕ} → r1 ≡ cut.Got x d → operand p endian start s expression at ≡ got (placed start x) d
-      unfolding block
-      block-there l = length-got ∙ rw (← h1, l)
+  pub block-there : {x : Span} {d : ℕ} → r ≡ cut.Got x d → block start s n c ≡ got (placed start x) d
+  unfolding block
+  block-there l = rw (← h, l)
 
 -- a part that was cut off starts in what it was cut from
 pub cut-within : (n : ℕ) (s : List ℕ) (c : ℕ) {r : Split} {x : Span} {d : ℕ} → toldSplit r ≡ split n s c → r ≡ cut.Got x d → x .offset ≤ length s

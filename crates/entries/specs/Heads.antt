@@ -2,10 +2,9 @@
 -- nothing above them. The kinds themselves are in Kinds.
 use Prim.Native.Nat.{ℕ}
 use mathlib.Core.List.{List}
-use lib.Dec.{ltb, eqb}
+use lib.Dec.{eqb}
 use Rattle.bytes.specs.Read.{Read, got, andThen, pick}
 use Rattle.bytes.specs.Error.{refusal}
-use Rattle.bytes.specs.Reader.{address as addressAt}
 use Rattle.bytes.specs.Leb128.{unsigned}
 use Rattle.bytes.specs.declared.common.Encoding.{Encoding}
 use Rattle.bytes.specs.declared.endianity.RunTimeEndian.{RunTimeEndian}
@@ -17,15 +16,6 @@ use Rattle.entries.specs.declared.RawLocListEntry.{RawLocListEntry}
 use Rattle.entries.specs.declared.RawLocListEntry.the-variants as loc
 use Rattle.entries.specs.declared.loclists.Head.{Head}
 use Rattle.entries.specs.declared.loclists.Head.the-variants as head
-
--- the number that comes first after a code
-unfoldable pub firstOperand : ℕ → ℕ → RunTimeEndian → List ℕ → ℕ → Read ℕ
-firstOperand code size endian s at = pick (ltb code 5) (unsigned s at) (addressAt endian size s at)
-
--- the number that comes second
-unfoldable pub secondOperand : ℕ → Encoding → RunTimeEndian → List ℕ → ℕ → Read ℕ
-secondOperand code p endian s at =
-    pick (eqb code 7) (addressAt endian (p .«address_size») s at) (pick (eqb code 3) (byVersion 4 p endian s at) (unsigned s at))
 
 -- the entry of a code, two numbers and an expression
 unfoldable pub locatedAs : ℕ → ℕ → ℕ → Expression → RawLocListEntry
@@ -45,6 +35,16 @@ headed p endian start s (head.BaseAddress a c) = got (entry (loc.BaseAddress a))
 headed p endian start s (head.BaseAddressx i c) = got (entry (loc.BaseAddressx (addrIndex i))) c
 headed p endian start s head.End = got stop 0
 headed p endian start s (head.Refused e) = refusal e
+
+-- two LEB128 numbers after a code
+abbrev pub numberPair : Encoding → RunTimeEndian → ℕ → List ℕ → ℕ → ℕ → Read (Raw RawLocListEntry)
+numberPair p endian start s code at =
+    andThen (unsigned s at) (λ a c. andThen (unsigned s c) (λ b d. headed p endian start s (head.Bounds code a b d)))
+
+-- a LEB128 number and a length
+abbrev pub startxLength : Encoding → RunTimeEndian → ℕ → List ℕ → ℕ → Read (Raw RawLocListEntry)
+startxLength p endian start s at =
+    andThen (unsigned s at) (λ a c. andThen (byVersion 4 p endian s c) (λ b d. headed p endian start s (head.Bounds 3 a b d)))
 
 -- a refusal handed on by the code; what is not refused is not handed on, and gets some other answer
 abbrev pub refusedHead : Num → Head

@@ -12,11 +12,12 @@ ghost use mathlib.Core.Path.{_≡_};
 ghost use Prim.Native.Nat.{ℕ, _+_, _<_, _^_};
 ghost use lib.ListN.{length};
 ghost use Rattle.bytes.specs.Read.{got};
-ghost use Rattle.bytes.specs.Error.{told};
+ghost use Rattle.bytes.specs.declared.common.Encoding.{Encoding};
+ghost use Rattle.bytes.specs.declared.endianity.RunTimeEndian.{RunTimeEndian};
 ghost use Rattle.entries.specs.Told.{stepOf, toldLocation, toldData, handed};
 ghost use Rattle.entries.specs.Forms.{stop};
 ghost use Rattle.entries.specs.Kinds.{hasKinds, codedLocation, bareLocation, locationEntry, moved, rawLocation};
-ghost use Rattle.entries.specs.Heads.{firstOperand, secondOperand, locatedAs, headed, refusedHead};
+ghost use Rattle.entries.specs.Heads.{locatedAs, headed, refusedHead, numberPair, startxLength};
 
 // What stands before an entry's expression, with the place after it: a code with two numbers, 0 for a bare pair and 5
 // without numbers; a base address, an end or a refusal, which no expression follows.
@@ -47,36 +48,38 @@ fn passed_data(r: Data) -> LocStep
     }
 }
 
-// The first operand of kinds 1 to 4 and 6 to 8.
-fn first_operand(part: &[u8], at: usize, code: u64, size: u8, endian: RunTimeEndian) -> Num
-    ensures { λ r. ⌜ told r ≡ firstOperand code size endian (now (part .entry)) at ⌝ }
+// The head of kinds 2 and 4: two LEB128 numbers.
+fn number_pair(part: &[u8], at: usize, code: u64) -> Head
+    ensures { λ r. ⌜ ((p : Encoding) (endian : RunTimeEndian) (start : ℕ) → headed p endian start (now (part .entry)) r ≡ numberPair p endian start (now (part .entry)) code at) ⌝ }
 {
-    if code < 5 {
-        return bytes::leb128::unsigned(part, at);
-    }
-    bytes::reader::read_address(part, at, size, endian)
+    let r = bytes::leb128::unsigned(part, at);
+    let Num::Got(a, c) = r else {
+        return passed(r);
+    };
+    let r1 = bytes::leb128::unsigned(part, c);
+    let Num::Got(b, c1) = r1 else {
+        return passed(r1);
+    };
+    Head::Bounds(code, a, b, c1)
 }
 
-// The second operand of kinds 2 to 4, 7 and 8.
-fn second_operand(
-    part: &[u8],
-    at: usize,
-    code: u64,
-    encoding: Encoding,
-    endian: RunTimeEndian,
-) -> Num
-    ensures { λ r. ⌜ told r ≡ secondOperand code encoding endian (now (part .entry)) at ⌝ }
+// The head of kind 3: a LEB128 number and a length.
+fn startx_length(part: &[u8], at: usize, encoding: Encoding, endian: RunTimeEndian) -> Head
+    ensures { λ r. ⌜ ((start : ℕ) → headed encoding endian start (now (part .entry)) r ≡ startxLength encoding endian start (now (part .entry)) at) ⌝ }
 {
-    if code == 7 {
-        return bytes::reader::read_address(part, at, encoding.address_size, endian);
-    }
-    if code == 3 {
-        return super::operands::read_length(part, at, encoding, endian);
-    }
-    bytes::leb128::unsigned(part, at)
+    let r = bytes::leb128::unsigned(part, at);
+    let Num::Got(a, c) = r else {
+        return passed(r);
+    };
+    let r1 = super::operands::read_length(part, c, encoding, endian);
+    let Num::Got(b, c1) = r1 else {
+        return passed(r1);
+    };
+    Head::Bounds(3, a, b, c1)
 }
 
-// The head of an entry by its kind.
+// The head of an entry by its kind. Each kind reads its own operands: where the answers of two readers meet before they
+// are looked at, the compiled code stores them and loads them again.
 fn coded_head(part: &[u8], encoding: Encoding, endian: RunTimeEndian) -> Head
     ensures { λ r. ⌜ ((start : ℕ) → stepOf (headed encoding endian start (now (part .entry)) r) ≡ stepOf (codedLocation encoding endian start (now (part .entry)))) ⌝ }
 {
@@ -85,30 +88,50 @@ fn coded_head(part: &[u8], encoding: Encoding, endian: RunTimeEndian) -> Head
     let Num::Got(code, c) = r else {
         return passed(r);
     };
-    if code == 0 {
-        return Head::End;
+    match code {
+        0 => Head::End,
+        1 => {
+            let r1 = bytes::leb128::unsigned(part, c);
+            let Num::Got(a, c1) = r1 else {
+                return passed(r1);
+            };
+            Head::BaseAddressx(a, c1)
+        }
+        2 => number_pair(part, c, 2),
+        3 => startx_length(part, c, encoding, endian),
+        4 => number_pair(part, c, 4),
+        5 => Head::Bounds(5, 0, 0, c),
+        6 => {
+            let r1 = bytes::reader::read_address(part, c, size, endian);
+            let Num::Got(a, c1) = r1 else {
+                return passed(r1);
+            };
+            Head::BaseAddress(a, c1)
+        }
+        7 => {
+            let r1 = bytes::reader::read_address(part, c, size, endian);
+            let Num::Got(a, c1) = r1 else {
+                return passed(r1);
+            };
+            let r2 = bytes::reader::read_address(part, c1, size, endian);
+            let Num::Got(b, c2) = r2 else {
+                return passed(r2);
+            };
+            Head::Bounds(7, a, b, c2)
+        }
+        8 => {
+            let r1 = bytes::reader::read_address(part, c, size, endian);
+            let Num::Got(a, c1) = r1 else {
+                return passed(r1);
+            };
+            let r2 = bytes::leb128::unsigned(part, c1);
+            let Num::Got(b, c2) = r2 else {
+                return passed(r2);
+            };
+            Head::Bounds(8, a, b, c2)
+        }
+        _ => Head::Refused(Error::UnknownLocListsEntry(code)),
     }
-    if 8 < code {
-        return Head::Refused(Error::UnknownLocListsEntry(code));
-    }
-    if code == 5 {
-        return Head::Bounds(5, 0, 0, c);
-    }
-    let r1 = first_operand(part, c, code, size, endian);
-    let Num::Got(a, c1) = r1 else {
-        return passed(r1);
-    };
-    if code == 1 {
-        return Head::BaseAddressx(a, c1);
-    }
-    if code == 6 {
-        return Head::BaseAddress(a, c1);
-    }
-    let r2 = second_operand(part, c1, code, encoding, endian);
-    let Num::Got(b, c2) = r2 else {
-        return passed(r2);
-    };
-    Head::Bounds(code, a, b, c2)
 }
 
 // A bare pair: both zero end the list, a begin with all bits set makes the end the base address.

@@ -11,7 +11,7 @@ ghost use lib.ListN.{length};
 ghost use Rattle.bytes.specs.Error.{told, toldSplit, refusal};
 ghost use Rattle.bytes.specs.declared.error.Error.the-variants.{UnexpectedEof};
 ghost use Rattle.entries.specs.Told.{toldData, handed};
-ghost use Rattle.entries.specs.Forms.{expression, byVersion, operand};
+ghost use Rattle.entries.specs.Forms.{expression, byVersion, block, operand};
 ghost use Rattle.entries.specs.Kinds.{isEnd};
 
 // An expression that was read, with the place after it.
@@ -28,16 +28,6 @@ pub(crate) fn read_length(part: &[u8], at: usize, encoding: Encoding, endian: Ru
         return bytes::leb128::unsigned(part, at);
     }
     bytes::reader::read_u32(part, at, endian)
-}
-
-// The length of an expression: LEB128, and two bytes up to version 4. 1, 2.
-fn read_expression_length(part: &[u8], at: usize, encoding: Encoding, endian: RunTimeEndian) -> Num
-    ensures { λ r. ⌜ told r ≡ byVersion 2 encoding endian (now (part .entry)) at ⌝ }
-{
-    if 5 <= encoding.version {
-        return bytes::leb128::unsigned(part, at);
-    }
-    bytes::reader::read_u16(part, at, endian)
 }
 
 // A refusal of a length passed on.
@@ -59,7 +49,26 @@ fn passed_split(r: Split) -> Data
     }
 }
 
-// An expression of a part that starts at a place of its section: its length, and as many bytes. 1, 2.
+// The bytes of an expression, whose length is read. 1.
+fn expression_bytes(part: &[u8], at: usize, len: u64, start: usize) -> Data
+    requires { ⌜ start + length (now part) < 2 ^ 64 ⌝ }
+    ensures { λ r. ⌜ toldData r ≡ block start (now (part .entry)) len at ⌝ }
+{
+    let r = bytes::reader::split(part, at, len);
+    let Split::Got(span, c) = r else {
+        return passed_split(r);
+    };
+    Data::Got(
+        Expression {
+            offset: start + span.offset,
+            len: span.len,
+        },
+        c,
+    )
+}
+
+// An expression of a part that starts at a place of its section: its length, LEB128 or two bytes up to version 4, and as
+// many bytes. 1, 2. Most lengths have one byte, which needs no putting together.
 pub(crate) fn read_expression(
     part: &[u8],
     at: usize,
@@ -70,21 +79,24 @@ pub(crate) fn read_expression(
     requires { ⌜ start + length (now part) < 2 ^ 64 ⌝ }
     ensures { λ r. ⌜ toldData r ≡ operand encoding endian start (now (part .entry)) expression at ⌝ }
 {
-    let r = read_expression_length(part, at, encoding, endian);
-    let Num::Got(n, c) = r else {
+    if 5 <= encoding.version {
+        if at < part.len() {
+            let byte = part[at];
+            if byte < 128 {
+                return expression_bytes(part, at + 1, byte as u64, start);
+            }
+        }
+        let r = bytes::leb128::unsigned(part, at);
+        let Num::Got(len, c) = r else {
+            return passed(r);
+        };
+        return expression_bytes(part, c, len, start);
+    }
+    let r = bytes::reader::read_u16(part, at, endian);
+    let Num::Got(len, c) = r else {
         return passed(r);
     };
-    let r1 = bytes::reader::split(part, c, n);
-    let Split::Got(span, c1) = r1 else {
-        return passed_split(r1);
-    };
-    Data::Got(
-        Expression {
-            offset: start + span.offset,
-            len: span.len,
-        },
-        c1,
-    )
+    expression_bytes(part, c, len, start)
 }
 
 // Whether a bare pair ends its list.

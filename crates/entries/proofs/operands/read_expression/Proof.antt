@@ -1,14 +1,30 @@
--- The length is there and the bytes follow, or a refusal is the answer. A part that was cut off starts inside what it was
--- cut from, so its place in the section fits. Assumes nothing.
+-- The version chooses how the length is read; it is there and the bytes follow, or a refusal is the answer. Assumes nothing.
 use mathlib.Core.Path.{sym, _∙_}
 use native.Mathlib.Omega.{arith}
 use borrow.Author.Needs.{needs}
-use Rattle.entries.proofs.OperandLaws.{length-passed-on, split-passed-on, length-refused, block-short, block-there, cut-within}
+use Rattle.bytes.proofs.LebLaws.{one}
+use Rattle.entries.proofs.OperandLaws.{from-five, before-five, length-is, length-passed-on, length-refused, length-got}
 use Rattle.entries.proofs.operands.read_expression.Statement.{statement}
 use Rattle.entries.proofs.operands.read_expression.Tie as tie
 
-read-expression-length-requires : tie.Need-read-expression-length-requires
-read-expression-length-requires c κs = search needs
+shared-slice-read-byte : tie.Need-shared-slice-read-byte
+shared-slice-read-byte c = search needs
+
+add-expression-bytes : tie.Need-add-expression-bytes
+add-expression-bytes c = search needs
+
+cast-expression-bytes : tie.Need-cast-expression-bytes
+cast-expression-bytes c = search needs
+
+expression-bytes-requires : tie.Need-expression-bytes-requires
+expression-bytes-requires c κs = search needs
+
+returns : tie.Need-returns
+returns c = c .expression-bytes .ensures
+    ∙ sym (length-is _ _ _ _ _ (from-five 2 _ _ _ _ (c .before .before .before .before .if1 .taken) ∙ sym (one _ _ (omega arith) (omega arith))))
+
+unsigned-requires : tie.Need-unsigned-requires
+unsigned-requires c κs = search needs
 
 enum-known-r : tie.Need-enum-known-r
 enum-known-r c = search needs
@@ -19,45 +35,58 @@ enum-told c = search needs
 passed-requires : tie.Need-passed-requires
 passed-requires c κs = search needs
 
-returns : tie.Need-returns
-returns c = length-passed-on (c .passed .ensures) (c .before .enum-told .given .1)
-    ∙ sym (length-refused _ _ _ _ _ (c .before .before .before .read-expression-length .ensures) (c .before .enum-told .given .1))
+returns-2 : tie.Need-returns-2
+returns-2 c = length-passed-on (c .passed .ensures) (c .before .enum-told .given .1)
+    ∙ sym (length-refused _ _ _ _ _ (c .before .before .before .unsigned .ensures ∙ sym (from-five 2 _ _ _ _ (c .before .before .before .before .before .if1 .taken))) (c .before .enum-told .given .1))
 
-split-requires : tie.Need-split-requires
-split-requires c κs = search needs
+expression-bytes-requires-2 : tie.Need-expression-bytes-requires-2
+expression-bytes-requires-2 c κs = search needs
 
-enum-known-r1 : tie.Need-enum-known-r1
-enum-known-r1 c = search needs
+returns-3 : tie.Need-returns-3
+returns-3 c = c .expression-bytes2 .ensures ∙ sym (length-got _ _ _ _ _ (c .before .before .before .before .unsigned .ensures ∙ sym (from-five 2 _ _ _ _ (c .before .before .before .before .before .before .if1 .taken))) (c .before .before .r .given .1))
+
+read-u16-requires : tie.Need-read-u16-requires
+read-u16-requires c κs = search needs
+
+enum-known-r-2 : tie.Need-enum-known-r-2
+enum-known-r-2 c = search needs
 
 enum-told-2 : tie.Need-enum-told-2
 enum-told-2 c = search needs
 
-passed-split-requires : tie.Need-passed-split-requires
-passed-split-requires c κs = search needs
+passed-requires-2 : tie.Need-passed-requires-2
+passed-requires-2 c κs = search needs
 
-returns-2 : tie.Need-returns-2
-returns-2 c = split-passed-on (c .passed-split .ensures) (c .before .enum-told2 .given .1)
-    ∙ sym (block-short _ _ _ _ _ (c .before .before .before .before .before .before .before .read-expression-length .ensures) (c .before .before .before .before .before .r .given .1) (c .before .before .before .split .ensures) (c .before .enum-told2 .given .1))
+returns-4 : tie.Need-returns-4
+returns-4 c = length-passed-on (c .passed2 .ensures) (c .before .enum-told2 .given .1)
+    ∙ sym (length-refused _ _ _ _ _ (c .before .before .before .read-u16 .ensures ∙ sym (before-five 2 _ _ _ _ (c .before .before .before .before .if1 .left))) (c .before .enum-told2 .given .1))
 
-add-t12 : tie.Need-add-t12
-add-t12 c = omega (arith, cut-within _ _ _ (c .before .before .before .before .split .ensures) (c .before .before .r1 .given .1))
+expression-bytes-requires-3 : tie.Need-expression-bytes-requires-3
+expression-bytes-requires-3 c κs = search needs
 
-returns-3 : tie.Need-returns-3
-returns-3 c = sym (block-there _ _ _ _ _ (c .before .before .before .before .before .before .before .before .read-expression-length .ensures) (c .before .before .before .before .before .before .r .given .1) (c .before .before .before .before .split .ensures) (c .before .before .r1 .given .1))
+returns-5 : tie.Need-returns-5
+returns-5 c = c .expression-bytes3 .ensures ∙ sym (length-got _ _ _ _ _ (c .before .before .before .before .read-u16 .ensures ∙ sym (before-five 2 _ _ _ _ (c .before .before .before .before .before .if1 .left))) (c .before .before .r2 .given .1))
 
 pub read-expression-spec : {M : Type 1} → statement M
 read-expression-spec =
     tie.close
     (tie.spec
-    read-expression-length-requires
+    shared-slice-read-byte
+    add-expression-bytes
+    cast-expression-bytes
+    expression-bytes-requires
+    returns
+    unsigned-requires
     enum-known-r
     enum-told
     passed-requires
-    returns
-    split-requires
-    enum-known-r1
-    enum-told-2
-    passed-split-requires
     returns-2
-    add-t12
-    returns-3)
+    expression-bytes-requires-2
+    returns-3
+    read-u16-requires
+    enum-known-r-2
+    enum-told-2
+    passed-requires-2
+    returns-4
+    expression-bytes-requires-3
+    returns-5)
