@@ -25,7 +25,7 @@ use Rattle.entries.proofs.EntryTook.{range-took}
 use Rattle.lists.specs.Open.{walkAt}
 use Rattle.lists.specs.Convert.{range, convert}
 use Rattle.lists.specs.Walk.{ranges, item, Trace, over, gave, trace}
-use Rattle.lists.proofs.Bounds.{InBounds}
+use Rattle.lists.specs.Walks.{InBounds}
 use Rattle.lists.proofs.Local.{past}
 use Rattle.lists.proofs.WalkLaws.{Moved, met-entry, met-end}
 use Rattle.coverage.specs.Ranges.{Range}

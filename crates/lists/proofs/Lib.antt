@@ -1,3 +1,4 @@
+pub mod OpenLaws
 pub mod WalkLaws
 pub mod Past
 pub mod ConvertLaws

@@ -1,3 +1,5 @@
 pub mod Open
 pub mod Convert
 pub mod Walk
+pub mod Yields
+pub mod Walks

@@ -7,7 +7,7 @@ ghost use mathlib.Core.Path.{_≡_};
 ghost use Rattle.lists.specs.Open.{toldOpened, opened};
 
 // A walk from an offset of a section: 6 with the size, then 1 for an offset past the section's end.
-pub fn open(section: &[u8], offset: u64, encoding: Encoding, base_address: u64) -> Opened
+pub(crate) fn open(section: &[u8], offset: u64, encoding: Encoding, base_address: u64) -> Opened
     ensures { λ r. ⌜ toldOpened r ≡ opened encoding (now (section .entry)) offset «base_address» ⌝ }
 {
     let size = encoding.address_size as u64;

@@ -4,4 +4,4 @@ pub mod header;
 pub mod lists;
 pub mod loclists;
 pub mod rnglists;
-pub mod row;
+mod row;

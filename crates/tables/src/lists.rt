@@ -64,7 +64,7 @@ impl ListsHeader {
 }
 
 // The bytes that a header of an encoding takes.
-pub fn size_for_encoding(encoding: Encoding) -> u64
+pub(crate) fn size_for_encoding(encoding: Encoding) -> u64
     ensures { λ r. ⌜ r ≡ headerSize encoding ⌝ }
 {
     let format = encoding.format;
@@ -72,7 +72,7 @@ pub fn size_for_encoding(encoding: Encoding) -> u64
 }
 
 // Where an offset table begins when no attribute says so: after the header in a split file from version 5 on, else 0.
-pub fn default_base(encoding: Encoding, file_type: DwarfFileType) -> u64
+pub(crate) fn default_base(encoding: Encoding, file_type: DwarfFileType) -> u64
     ensures { λ r. ⌜ r ≡ defaultBase encoding «file_type» ⌝ }
 {
     if encoding.version < 5 {

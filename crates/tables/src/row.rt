@@ -24,7 +24,7 @@ fn too_large(index: u64, width: u8) -> bool
 }
 
 // The place of a row: 1 for the base, 9 for the product, 1 for the row.
-pub fn row_at(section: &[u8], base: u64, index: u64, width: u8) -> Place
+pub(crate) fn row_at(section: &[u8], base: u64, index: u64, width: u8) -> Place
     ensures { λ r. ⌜ toldPlace r ≡ rowAt base index width (now (section .entry)) ⌝ }
 {
     match bytes::reader::skip(section, 0, base) {
@@ -44,7 +44,7 @@ pub enum OffsetAnswer {
 }
 
 // The offset in a row of an offset table, counted from the section's start.
-pub fn offset_at(
+pub(crate) fn offset_at(
     section: &[u8],
     format: Format,
     base: u64,

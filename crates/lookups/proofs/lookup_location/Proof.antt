@@ -1,5 +1,5 @@
 -- Opening, then the lookup from there. Assumes nothing.
-use Rattle.lookups.proofs.LookupLaws.{opened-size}
+use Rattle.lists.proofs.OpenLaws.{opened-size}
 use Rattle.lookups.specs.Lookup.{fromOpening}
 use Rattle.lists.specs.Open.{toldOpened}
 use mathlib.Core.Path.{sym, ap, _∙_}

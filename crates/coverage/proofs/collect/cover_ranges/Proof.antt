@@ -6,7 +6,7 @@ use Rattle.lists.specs.Open.{toldOpened}
 use Rattle.coverage.specs.Covered.{rangeList, source}
 use Rattle.coverage.specs.Told.{made}
 use Rattle.coverage.proofs.CallLaws.{coverage-refused}
-use Rattle.coverage.proofs.CoveredLaws.{opened-size}
+use Rattle.lists.proofs.OpenLaws.{opened-size}
 use Rattle.coverage.proofs.GatherLaws.{outcome-blank, gathered-asks, gathered-made}
 use Rattle.coverage.proofs.collect.cover_ranges.Statement.{statement}
 use Rattle.coverage.proofs.collect.cover_ranges.Tie as tie
