@@ -1,4 +1,4 @@
--- The value of bytes in either order (DWARF 5, 7.27), for any number of bytes.
+-- The value of bytes in either order, for any number of bytes: the standard leaves the order to the target, and sections don't say it.
 use Prim.Native.Nat.{ℕ, _+_, _*_}
 use mathlib.Core.List.{List, [], _∷_, reverse}
 use Rattle.bytes.specs.declared.endianity.RunTimeEndian.{RunTimeEndian}
