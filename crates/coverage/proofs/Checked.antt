@@ -7,6 +7,7 @@ use Prim.Native.Nat.{ℕ, suc, _+_, _-_, _^_, _≤_, _<_}
 use native.Mathlib.Omega.{arith}
 use lib.Dec.{T}
 use lib.ListN.{length, take, drop, getD}
+use Rattle.bytes.specs.Address.{minTombstone}
 use Rattle.coverage.specs.Ranges.{Range, Apart, limit}
 use Rattle.coverage.specs.Kept.{paired, rangesOf, lawfulFrom, lawfulSheet}
 use Rattle.coverage.specs.declared.Coverage.{Coverage}
@@ -36,7 +37,7 @@ module _ {bs es : List ℕ} {n i last : ℕ} (t : Checked bs es n i last) where
   at-first w = t .same ∙ ap (lawfulFrom (t .lo)) (next-range bs es n (t .few) (t .lb) (t .le) i w)
 
   pub checked-step : i < n
-      → (0 < i → last < getD bs i 0) → getD bs i 0 < getD es i 0 → getD bs i 0 < 2 ^ 64 - 2 → Checked bs es n (i + 1) (getD es i 0)
+      → (0 < i → last < getD bs i 0) → getD bs i 0 < getD es i 0 → getD bs i 0 < minTombstone 8 → Checked bs es n (i + 1) (getD es i 0)
   unfolding rest
   checked-step w a h k =
       record {
@@ -63,7 +64,7 @@ module _ {bs es : List ℕ} {n i last : ℕ} (t : Checked bs es n i last) where
   pub checked-empty : i < n → getD es i 0 ≤ getD bs i 0 → false ≡ lawfulFrom 0 (take n (paired bs es))
   checked-empty w h = sym (at-first w ∙ not-proper (t .lo) (getD bs i 0, getD es i 0) rest h)
 
-  pub checked-high : i < n → 2 ^ 64 - 2 ≤ getD bs i 0 → false ≡ lawfulFrom 0 (take n (paired bs es))
+  pub checked-high : i < n → minTombstone 8 ≤ getD bs i 0 → false ≡ lawfulFrom 0 (take n (paired bs es))
   checked-high w h = sym (at-first w ∙ not-below (t .lo) (getD bs i 0, getD es i 0) rest h)
 
   pub checked-end : n ≤ i → true ≡ lawfulFrom 0 (take n (paired bs es))

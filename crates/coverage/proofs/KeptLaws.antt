@@ -9,6 +9,7 @@ use lib.Dec.{leb, ltb}
 use lib.ListN.{length, take, drop, getD, length-take, length-append, length-replicate, drop-of-length-le}
 use lib.Seq.{drop-cons, getD-take, take-append-seam}
 use borrow.Author.Tests.{le-leb, lt-leb, lt-ltb, le-ltb, leb-true, ltb-true}
+use Rattle.bytes.specs.Address.{minTombstone}
 use Rattle.coverage.specs.Ranges.{Range, From, Apart, limit}
 use Rattle.coverage.specs.Kept.{paired, begins, ends, rangesOf, padded, keptAs, lawfulFrom, lawfulSheet}
 use Rattle.coverage.specs.declared.Coverage.{Coverage}
@@ -81,9 +82,9 @@ length-padded l h = rw (length-append, length-replicate) (omega arith)
 
 -- the test of a first range
 module _ (lo : ℕ) (r : Range) (rs : List Range) where
-  pub lawful-first : lo ≤ r .0 → r .0 < r .1 → r .0 < 2 ^ 64 - 2 → lawfulFrom lo (r ∷ rs) ≡ lawfulFrom (suc (r .1)) rs
+  pub lawful-first : lo ≤ r .0 → r .0 < r .1 → r .0 < minTombstone 8 → lawfulFrom lo (r ∷ rs) ≡ lawfulFrom (suc (r .1)) rs
   unfolding lawfulFrom
-  lawful-first h k l = rw (le-leb lo (r .0) h, lt-ltb (r .0) (r .1) k, lt-ltb (r .0) (2 ^ 64 - 2) l)
+  lawful-first h k l = rw (le-leb lo (r .0) h, lt-ltb (r .0) (r .1) k, lt-ltb (r .0) (minTombstone 8) l)
 
   pub not-above : r .0 < lo → lawfulFrom lo (r ∷ rs) ≡ false
   unfolding lawfulFrom
@@ -93,17 +94,17 @@ module _ (lo : ℕ) (r : Range) (rs : List Range) where
   unfolding lawfulFrom
   not-proper h = rw (le-ltb (r .0) (r .1) h, and-false (leb lo (r .0)))
 
-  pub not-below : 2 ^ 64 - 2 ≤ r .0 → lawfulFrom lo (r ∷ rs) ≡ false
+  pub not-below : minTombstone 8 ≤ r .0 → lawfulFrom lo (r ∷ rs) ≡ false
   unfolding lawfulFrom
-  not-below h = rw (le-ltb (r .0) (2 ^ 64 - 2) h, and-false (leb lo (r .0) && ltb (r .0) (r .1)))
+  not-below h = rw (le-ltb (r .0) (minTombstone 8) h, and-false (leb lo (r .0) && ltb (r .0) (r .1)))
 
-  first-lawful : lawfulFrom lo (r ∷ rs) ≡ true → (lo ≤ r .0) × (r .0 < r .1) × (r .0 < 2 ^ 64 - 2) × (lawfulFrom (suc (r .1)) rs ≡ true)
+  first-lawful : lawfulFrom lo (r ∷ rs) ≡ true → (lo ≤ r .0) × (r .0 < r .1) × (r .0 < minTombstone 8) × (lawfulFrom (suc (r .1)) rs ≡ true)
   unfolding lawfulFrom
   first-lawful e =
-      let p = and-eq-true-iff (leb lo (r .0) && ltb (r .0) (r .1) && ltb (r .0) (2 ^ 64 - 2)) (lawfulFrom (suc (r .1)) rs) .0 e in
-      let q = and-eq-true-iff (leb lo (r .0) && ltb (r .0) (r .1)) (ltb (r .0) (2 ^ 64 - 2)) .0 (p .0) in
+      let p = and-eq-true-iff (leb lo (r .0) && ltb (r .0) (r .1) && ltb (r .0) (minTombstone 8)) (lawfulFrom (suc (r .1)) rs) .0 e in
+      let q = and-eq-true-iff (leb lo (r .0) && ltb (r .0) (r .1)) (ltb (r .0) (minTombstone 8)) .0 (p .0) in
       let u = and-eq-true-iff (leb lo (r .0)) (ltb (r .0) (r .1)) .0 (q .0) in
-      (leb-true lo (r .0) (u .0), ltb-true (r .0) (r .1) (u .1), ltb-true (r .0) (2 ^ 64 - 2) (q .1), p .1)
+      (leb-true lo (r .0) (u .0), ltb-true (r .0) (r .1) (u .1), ltb-true (r .0) (minTombstone 8) (q .1), p .1)
 
 -- the test holds of ranges that keep apart and lie in their bounds
 pub from-lawful : (lo : ℕ) (rs : List Range) → From lo rs → Small rs → lawfulFrom lo rs ≡ true

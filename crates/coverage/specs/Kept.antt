@@ -1,9 +1,10 @@
 -- How a coverage is kept: a count and two arrays, and which of them make a lawful sheet.
 use mathlib.Core.Bool.{Bool, true, _&&_}
 use mathlib.Core.List.{List, [], _∷_, _++_, map}
-use Prim.Native.Nat.{ℕ, suc, _-_, _^_}
+use Prim.Native.Nat.{ℕ, suc, _-_}
 use lib.Dec.{leb, ltb}
 use lib.ListN.{length, take, replicate}
+use Rattle.bytes.specs.Address.{minTombstone}
 use Rattle.coverage.specs.Ranges.{Range, limit}
 use Rattle.coverage.specs.declared.Coverage.{Coverage}
 
@@ -33,10 +34,10 @@ unfoldable pub keptAs : List Range → Coverage
 keptAs rs = record { n = length rs; begins = padded (begins rs); ends = padded (ends rs) }
 
 -- whether the first begin is at least lo and each later one above the end before, and each is below its end and below
--- 2^64 - 2 (document 01, refusal 12)
+-- the tombstone bound of 64 bits (document 01, refusal 12)
 unfoldable pub lawfulFrom : ℕ → List Range → Bool
 lawfulFrom lo [] = true
-lawfulFrom lo (r ∷ rs) = leb lo (r .0) && ltb (r .0) (r .1) && ltb (r .0) (2 ^ 64 - 2) && lawfulFrom (suc (r .1)) rs
+lawfulFrom lo (r ∷ rs) = leb lo (r .0) && ltb (r .0) (r .1) && ltb (r .0) (minTombstone 8) && lawfulFrom (suc (r .1)) rs
 
 -- whether a coverage makes a lawful sheet (document 01, "Coverage" and refusal 12)
 unfoldable pub lawfulSheet : Coverage → Bool

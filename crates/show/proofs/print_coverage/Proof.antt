@@ -3,11 +3,12 @@ use borrow.Author.Needs.{needs}
 use lib.ListN.{length}
 use mathlib.Core.Path.{_≡_}
 use Prim.Native.Nat.{_≤_, _-_}
+use Rattle.coverage.specs.Ranges.{limit}
 use Rattle.show.proofs.print_coverage.Statement.{statement}
 use Rattle.show.proofs.print_coverage.Tie as tie
 
 abbrev Inv-loop : tie.InvT-loop
-Inv-loop n begins ends i₀ i = (i ≤ n) × (length begins ≡ 1024) × (length ends ≡ 1024)
+Inv-loop n begins ends i₀ i = (i ≤ n) × (length begins ≡ limit) × (length ends ≡ limit)
 
 abbrev μ-loop : tie.MeasureT-loop
 μ-loop n begins ends i₀ i = n - i

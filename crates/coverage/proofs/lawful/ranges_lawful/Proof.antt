@@ -3,18 +3,22 @@
 use mathlib.Core.Logic.{⊎-elim}
 use Prim.Native.Nat.{_-_}
 use native.Mathlib.Omega.{arith}
+use borrow.Author.Needs.{needs}
 use Rattle.coverage.proofs.Checked.{Checked, checked-start, checked-step, checked-low, checked-empty, checked-high, checked-end}
 use Rattle.coverage.proofs.lawful.ranges_lawful.Statement.{statement}
 use Rattle.coverage.proofs.lawful.ranges_lawful.Tie as tie
 
 abbrev Inv-loop : tie.InvT-loop
-Inv-loop n begins ends i₀ last₀ i last = Checked begins ends n i last
+Inv-loop n begins ends bound i₀ last₀ i last = Checked begins ends n i last
 
 abbrev μ-loop : tie.MeasureT-loop
-μ-loop n begins ends i₀ last₀ i last = n - i
+μ-loop n begins ends bound i₀ last₀ i last = n - i
+
+min-tombstone-requires : tie.Need-min-tombstone-requires Inv-loop μ-loop
+min-tombstone-requires c κs = search needs
 
 loop-holds : tie.Need-loop-holds Inv-loop μ-loop
-loop-holds c = checked-start (c .pre .0) (c .pre .1) (c .pre .2)
+loop-holds c = let p = c .before .pre in checked-start (p .0) (p .1) (p .2)
 
 mul-begin : tie.Need-mul-begin Inv-loop μ-loop
 mul-begin c = omega arith
@@ -38,7 +42,7 @@ returns-2 c =
 
 returns-3 : tie.Need-returns-3 Inv-loop μ-loop
 returns-3 c =
-    let w = c .before .before .before .before .before in checked-high (w .before .loop .inv) (w .loop-test .taken) (c .if4 .taken)
+    let w = c .before .before .before .before .before in checked-high (w .before .loop .inv) (w .loop-test .taken) (omega (arith, c .if4 .taken, w .before .before .min-tombstone .ensures))
 
 add-i : tie.Need-add-i Inv-loop μ-loop
 add-i c = omega arith
@@ -50,7 +54,7 @@ loop-again : tie.Need-loop-again Inv-loop μ-loop
 loop-again c =
     let w = c .before .before .before .before .before in
     checked-step (w .before .loop .inv) (w .loop-test .taken)
-    (⊎-elim (λ w p. w .1 .left) (λ w p. absurd (omega arith)) (c .before .before .if1 .came)) (c .before .if3 .left) (c .if4 .left)
+    (⊎-elim (λ w p. w .1 .left) (λ w p. absurd (omega arith)) (c .before .before .if1 .came)) (c .before .if3 .left) (omega (arith, c .if4 .left, w .before .before .min-tombstone .ensures))
 
 returns-4 : tie.Need-returns-4 Inv-loop μ-loop
 returns-4 c = checked-end (c .before .loop .inv) (c .loop-test .left)
@@ -61,6 +65,7 @@ ranges-lawful-spec =
     (tie.spec
     Inv-loop
     μ-loop
+    min-tombstone-requires
     loop-holds
     mul-begin
     element-copy-out-begin
