@@ -5,3 +5,4 @@ pub mod ReaderTook
 pub mod AddressLaws
 pub mod LebLaws
 pub mod LebTook
+pub mod Inside

@@ -1,16 +1,15 @@
 -- What the definitions of reading say, case by case. Callers' proofs cite these and do not open the definitions.
-use mathlib.Core.Path.{_≡_, refl, sym, ap, _∙_}
+use mathlib.Core.Path.{_≡_, refl, _∙_}
 use mathlib.Core.Bool.{Bool, true, false, _||_}
 use mathlib.Core.List.{List, []}
 use mathlib.Core.Logic.{_⊎_, inl, inr, ⊎-elim}
-use Prim.Native.Nat.{ℕ, zero, suc, _+_, _-_, _≤_, _<_}
+use Prim.Native.Nat.{ℕ, _+_, _-_, _≤_, _<_}
 use native.Mathlib.Omega.{arith}
 use lib.ListN.{length, take, drop}
-use lib.Dec.{leb, eqb}
+use lib.Dec.{eqb}
 use borrow.Author.Tests.{le-leb, lt-leb, le-ltb, lt-ltb, eq-eqb, ne-eqb, eqb-true}
-use Rattle.bytes.specs.Read.{Read, got, refused, andThen, pick}
+use Rattle.bytes.specs.Read.{Read, got, andThen}
 use Rattle.bytes.specs.Error.{refusal, told, toldPlace}
-use Rattle.bytes.specs.Common.{wordSize}
 use Rattle.bytes.specs.Endianity.{value}
 use Rattle.bytes.specs.Reader.{skip, uint, split, truncate, partOf, isSize, address, addressSize, initialLength, lengthOf}
 use Rattle.bytes.specs.declared.common.Format.the-variants.{Dwarf32, Dwarf64}

@@ -1,14 +1,14 @@
 -- The value of bytes: side by side, the other way round, and its bound.
-use mathlib.Core.Path.{_≡_, refl, sym, ap, _∙_}
+use mathlib.Core.Path.{_≡_, refl, ap, _∙_}
 use mathlib.Core.List.{List, [], _∷_, _++_, reverse, reverse-append, reverse-cons}
-use Prim.Native.Nat.{ℕ, zero, suc, _+_, _-_, _*_, _/_, _%_, _^_, _≤_, _<_}
-use native.Mathlib.Nat.{mul-comm, mul-assoc, pow-suc}
+use Prim.Native.Nat.{ℕ, suc, _+_, _-_, _*_, _/_, _%_, _^_, _<_}
+use native.Mathlib.Nat.{mul-assoc, pow-suc}
 use native.Mathlib.Omega.{arith}
 use lib.Arith.{digits-lt, digits-div, digits-mod}
 use lib.ListN.{length, getD, take, drop, length-append}
 use lib.Pow.{pow-add}
 use lib.Seq.{drop-cons, take-add, drop-drop}
-use Rattle.bytes.specs.Endianity.{little, value}
+use Rattle.bytes.specs.Endianity.{little}
 use Rattle.bytes.specs.Swap.{swap, Loaded}
 
 -- numbers side by side, the first lower

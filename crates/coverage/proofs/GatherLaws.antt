@@ -8,7 +8,7 @@ use native.Mathlib.Nat.{sub-self}
 use native.Mathlib.Numerals.{add-one}
 use native.Mathlib.Omega.{arith}
 use lib.ListN.{length, take, getD, set, replicate, length-take, length-set, length-replicate, replicate-append-replicate}
-use lib.Seq.{take-suc-set, take-all}
+use lib.Seq.{take-suc-set}
 use Rattle.bytes.specs.Read.{Result, gives, refuses}
 use Rattle.bytes.specs.Error.{number, values, refusing}
 use Rattle.bytes.specs.declared.error.Error.{Error}
@@ -23,7 +23,6 @@ use Rattle.coverage.specs.Kept.{paired, padded, keptAs}
 use Rattle.coverage.specs.Gathered.{Stored, Zeros, Blank, toldCollected, RunsApart, Asked, Gathered, toldOutcome}
 use Rattle.coverage.specs.Sorted.{Sized, SameFrom, first, ToRuns}
 use Rattle.coverage.specs.Told.{Answer, answer, made}
-use Rattle.coverage.specs.declared.Coverage.{Coverage}
 use Rattle.coverage.specs.declared.collect.Collected.{Collected}
 use Rattle.coverage.specs.declared.collect.Collected.the-variants as collected
 use Rattle.coverage.specs.declared.collect.Outcome.{Outcome}

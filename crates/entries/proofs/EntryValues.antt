@@ -8,9 +8,9 @@ use native.Mathlib.Omega.{arith}
 use lib.ListN.{length, getD, drop, length-drop}
 use lib.Seq.{getD-drop}
 use lib.Dec.{leb, eqb}
-use borrow.Author.Tests.{leb-true, leb-false}
+use borrow.Author.Tests.{leb-false}
 use Rattle.bytes.specs.Read.{Read, got, refused, andThen}
-use Rattle.bytes.specs.Reader.{uint, skip, split, address as addressAt}
+use Rattle.bytes.specs.Reader.{uint, split, address as addressAt}
 use Rattle.bytes.specs.Address.{ones}
 use Rattle.bytes.specs.Leb128.{unsigned}
 use Rattle.bytes.specs.declared.common.Encoding.{Encoding}
@@ -20,6 +20,7 @@ use Rattle.bytes.specs.declared.error.Error.{Error}
 use Rattle.bytes.proofs.Took.{pick-ind}
 use Rattle.bytes.proofs.ReaderTook.{uint-lt, address-lt}
 use Rattle.bytes.proofs.LebTook.{unsigned-lt}
+use Rattle.bytes.proofs.Inside.{split-inside}
 use Rattle.entries.specs.declared.Expression.{Expression}
 use Rattle.entries.specs.declared.RawRngListEntry.{RawRngListEntry}
 use Rattle.entries.specs.declared.RawRngListEntry.the-variants as rng
@@ -78,13 +79,8 @@ module _ (p : Encoding) (endian : RunTimeEndian) (start : ℕ) (s : List ℕ) (b
       pick-ind (Gives (λ v. v < 2 ^ 64)) (leb 5 (p .version)) (λ _. number-small at)
       (λ _. gives-all _ (uint endian k s at) (λ v c e. omega (arith, uint-lt endian k s at bytes e)))
 
-  skip-small : (n c : ℕ) → Gives (λ _. c + n ≤ length s) (skip n s c)
-  unfolding skip
-  skip-small n c = pick-ind (Gives (λ _. c + n ≤ length s)) (leb (c + n) (length s)) (λ e. leb-true (c + n) (length s) e) (λ _. tt)
-
   split-small : (n c : ℕ) → Gives (λ x. x .offset + x .len ≤ length s) (split n s c)
-  unfolding split
-  split-small n c = then-gives _ _ (skip n s c) _ (skip-small n c) (λ _ d h. h)
+  split-small n c = gives-all _ (split n s c) (λ x d e. let i = split-inside n s c e in omega arith)
 
   block-small : (n c : ℕ) → Gives (λ x. x .offset + x .len ≤ start + length s) (block start s n c)
   unfolding block

@@ -1,23 +1,19 @@
 -- Places of a part counted in its section: a read ends in its part, so the place after it fits, and a part's answer, moved,
 -- is its section's. Assumes nothing.
 use mathlib.Core.Path.{_≡_, refl, sym, ap, _∙_}
-use mathlib.Core.Bool.{Bool, true, false}
 use mathlib.Core.List.{List}
 use Prim.Native.Nat.{ℕ, _+_, _-_, _≤_, _<_}
-use native.Mathlib.Omega.{arith}
-use lib.Dec.{leb}
-use lib.ListN.{length, take, drop, drop-of-length-le}
-use borrow.Author.Tests.{leb-true, leb-false}
+use lib.ListN.{length, take, drop}
 use Rattle.bytes.specs.Read.{Read, got, refused}
 use Rattle.bytes.specs.Error.{told}
 use Rattle.bytes.specs.Reader.{address}
-use Rattle.bytes.specs.Leb128.{unsigned, unsignedFrom}
+use Rattle.bytes.specs.Leb128.{unsigned}
 use Rattle.bytes.specs.declared.endianity.RunTimeEndian.{RunTimeEndian}
 use Rattle.bytes.specs.declared.Num.{Num}
 use Rattle.bytes.specs.declared.Num.the-variants as num
 use Rattle.bytes.proofs.Took.{Took}
 use Rattle.bytes.proofs.ReaderTook.{address-took}
-use Rattle.bytes.proofs.LebTook.{unsigned-took}
+use Rattle.bytes.proofs.Inside.{unsigned-inside}
 use Rattle.entries.specs.Told.{Step, found, ended, failed, stepOf}
 use Rattle.entries.specs.Forms.{Raw, stop, entry}
 use Rattle.entries.specs.Kinds.{moved, rawAt}
@@ -28,17 +24,9 @@ module _ (s : List ℕ) (at : ℕ) {v c : ℕ} where
   ends-within : (r q : Read ℕ) → Took (at + 1) at s s r q → got v c ≡ r → c ≤ length s
   ends-within r q k h = let j = rw (← h) at k in j .1
 
-  unsigned-ends : (t : Bool) → leb at (length s) ≡ t → got v c ≡ unsigned s at → c ≤ length s
-  unfolding unsigned unsignedFrom
-  unsigned-ends true e h = ends-within (unsigned s at) (unsigned s at) (unsigned-took s s at (leb-true at (length s) e)) h
-  unsigned-ends false e h =
-      let l = leb-false at (length s) e in
-      let n = rw (drop-of-length-le s {i = at} (omega arith)) at h in
-      let z : _≡_ {A = ℕ} 0 1 = cc in absurd (omega arith)
-
   module _ {r : Num} where
     pub unsigned-within : told r ≡ unsigned s at → r ≡ num.Got v c → c ≤ length s
-    unsigned-within h q = unsigned-ends (leb at (length s)) refl (rw q at h)
+    unsigned-within h q = unsigned-inside s at (sym (rw q at h))
 
     pub address-within : (endian : RunTimeEndian) (size : ℕ) → told r ≡ address endian size s at → r ≡ num.Got v c → c ≤ length s
     address-within endian size h q = ends-within (address endian size s at) (address endian size s at) (address-took s s size at endian) (rw q at h)

@@ -1,16 +1,14 @@
 -- The operands of an entry, one at a time: each is there and the others follow, or its refusal is the answer.
 -- Assumes nothing.
-use mathlib.Core.Path.{_≡_, refl, ap}
-use mathlib.Core.Bool.{Bool, true, false}
+use mathlib.Core.Path.{_≡_, sym}
 use mathlib.Core.List.{List}
-use Prim.Native.Nat.{ℕ, _+_, _≤_, _<_}
+use Prim.Native.Nat.{ℕ, _≤_, _<_}
 use native.Mathlib.Omega.{arith}
 use lib.ListN.{length}
-use lib.Dec.{leb}
-use borrow.Author.Tests.{le-leb, lt-leb, leb-true}
-use Rattle.bytes.specs.Read.{Read, got, andThen, pick}
+use borrow.Author.Tests.{le-leb, lt-leb}
+use Rattle.bytes.specs.Read.{Read, got, andThen}
 use Rattle.bytes.specs.Error.{told, toldSplit, refusal}
-use Rattle.bytes.specs.Reader.{uint, skip, split}
+use Rattle.bytes.specs.Reader.{uint, split}
 use Rattle.bytes.specs.Leb128.{unsigned}
 use Rattle.bytes.specs.declared.common.Encoding.{Encoding}
 use Rattle.bytes.specs.declared.common.DebugAddrIndex.{DebugAddrIndex}
@@ -22,6 +20,7 @@ use Rattle.bytes.specs.declared.Num.the-variants as num
 use Rattle.bytes.specs.declared.Span.{Span}
 use Rattle.bytes.specs.declared.Split.{Split}
 use Rattle.bytes.specs.declared.Split.the-variants as cut
+use Rattle.bytes.proofs.Inside.{split-inside}
 use Rattle.entries.specs.declared.Expression.{Expression}
 use Rattle.entries.specs.declared.operands.Data.{Data}
 use Rattle.entries.specs.declared.operands.Data.the-variants as parsed
@@ -68,16 +67,6 @@ module _ (k : ℕ) (p : Encoding) (endian : RunTimeEndian) (s : List ℕ) (at : 
   unfolding byVersion
   before-five h = simp (lt-leb _ _ h)
 
-abbrev moves : ℕ → Read Unit
-moves c = got tt c
-
--- where a part was cut off
-cut-picked : (b : Bool) (n at : ℕ) {x : Span} {d : ℕ}
-    → got x d ≡ andThen (pick b (moves (at + n)) (refusal UnexpectedEof)) (λ _ c. got (record { offset = at; len = n }) c)
-    → (b ≡ true) × (x ≡ record { offset = at; len = n })
-cut-picked true n at h = (refl, cc)
-cut-picked false n at h = let z : _≡_ {A = ℕ} 0 1 = cc in absurd (omega arith)
-
 -- an expression: its length is there, or not
 pub length-is : (p : Encoding) (endian : RunTimeEndian) (start : ℕ) (s : List ℕ) (at : ℕ) {n c : ℕ} → byVersion 2 p endian s at ≡ got n c
     → operand p endian start s expression at ≡ block start s n c
@@ -102,7 +91,4 @@ module _ (start n : ℕ) (s : List ℕ) (c : ℕ) {r : Split} (h : toldSplit r �
 
 -- a part that was cut off starts in what it was cut from
 pub cut-within : (n : ℕ) (s : List ℕ) (c : ℕ) {r : Split} {x : Span} {d : ℕ} → toldSplit r ≡ split n s c → r ≡ cut.Got x d → x .offset ≤ length s
-unfolding split skip
-cut-within n s c h l =
-    let e = cut-picked (leb (c + n) (length s)) n c (rw l at h) in
-    omega (arith, leb-true (c + n) (length s) (e .0), ap (λ (y : Span). y .offset) (e .1))
+cut-within n s c h l = let i = split-inside n s c (sym (rw l at h)) in omega arith

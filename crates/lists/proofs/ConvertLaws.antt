@@ -1,11 +1,11 @@
 -- Conversion, a case at a time, for a size as parameter; and the raw calls of a walk.
-use mathlib.Core.Path.{_≡_, refl, sym, ap, _∙_}
-use mathlib.Core.Bool.{Bool, true, false}
+use mathlib.Core.Path.{_≡_}
+use mathlib.Core.Bool.{true, false}
 use mathlib.Core.List.{List}
 use Prim.Native.Nat.{ℕ, _≤_, _<_}
 use lib.ListN.{length}
 use borrow.Author.Tests.{le-leb, lt-leb}
-use Rattle.bytes.specs.Read.{Read, got, refused, Result, gives, pick}
+use Rattle.bytes.specs.Read.{Read, Result, gives}
 use Rattle.bytes.specs.Error.{number, values, refusing}
 use Rattle.bytes.specs.Reader.{isSize}
 use Rattle.bytes.specs.Address.{addSized, minTombstone}
@@ -14,15 +14,15 @@ use Rattle.bytes.specs.declared.common.Encoding.{Encoding}
 use Rattle.bytes.specs.declared.error.Error.{Error}
 use Rattle.bytes.specs.declared.error.Error.the-variants.{UnexpectedEof, UnsupportedAddressSize}
 use Rattle.tables.specs.Addr.{toldAddress}
-use Rattle.tables.specs.Next.{Next, yields, ends, stops, stopped}
+use Rattle.tables.specs.Next.{yields, ends, stops, stopped}
 use Rattle.tables.specs.declared.addr.AddressAnswer.{AddressAnswer}
 use Rattle.tables.specs.declared.addr.AddressAnswer.the-variants as address
-use Rattle.entries.specs.Forms.{Raw, stop, entry}
-use Rattle.entries.specs.Told.{Step, found, ended, failed, stepOf}
+use Rattle.entries.specs.Forms.{Raw}
+use Rattle.entries.specs.Told.{found, ended, failed, stepOf}
 use Rattle.entries.proofs.StepLaws.{step-found, step-ended, step-failed}
 use Rattle.lists.specs.Open.{walkAt, opened, byVersion}
-use Rattle.lists.specs.Convert.{Turn, range, rebase, skip, missing, told, bounded, offsets, looked, passedOf, convert}
-use Rattle.lists.specs.Walk.{Listing, onRaw, nextRaw, Outcome, refuses, outcome, convertRaw}
+use Rattle.lists.specs.Convert.{Turn, range, skip, told, bounded, offsets, looked, passedOf, convert}
+use Rattle.lists.specs.Walk.{Listing, onRaw, nextRaw, refuses, outcome, convertRaw}
 use Rattle.lists.specs.declared.Walk.{Walk}
 use Rattle.lists.specs.declared.convert.Converted.{Converted}
 

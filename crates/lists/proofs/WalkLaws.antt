@@ -1,21 +1,20 @@
 -- The trace an entry at a time, for any listing whose entries end past their place: fuel does not show any more.
-use mathlib.Core.Path.{_≡_, refl, sym, ap, _∙_, subst}
+use mathlib.Core.Path.{_≡_, refl, sym, ap, _∙_}
 use mathlib.Core.Bool.{Bool, true, false}
 use mathlib.Core.List.{List}
 use Prim.Native.Nat.{ℕ, zero, suc, _+_, _≤_, _<_}
 use native.Mathlib.Omega.{arith}
 use lib.Dec.{leb}
-use borrow.Author.Tests.{le-leb, lt-leb, leb-true, leb-false}
+use borrow.Author.Tests.{le-leb, lt-leb, leb-false}
 use Rattle.bytes.specs.Read.{Read, got, refused, Result, pick}
 use Rattle.bytes.specs.Reader.{isSize}
 use Rattle.bytes.specs.declared.common.DebugAddrIndex.{DebugAddrIndex}
 use Rattle.bytes.specs.declared.error.Error.the-variants.{UnsupportedAddressSize}
-use Rattle.bytes.proofs.Took.{pick-ind}
-use Rattle.tables.specs.Next.{Next, yields, ends, stops, stopped}
+use Rattle.tables.specs.Next.{stopped}
 use Rattle.entries.specs.Forms.{Raw, stop, entry}
 use Rattle.lists.specs.Open.{walkAt}
 use Rattle.lists.specs.Convert.{Turn, range, rebase, skip, missing, convert}
-use Rattle.lists.specs.Walk.{Listing, Item, item, Trace, over, gave, lost, onTurn, onRead, traceFrom, trace, first, next}
+use Rattle.lists.specs.Walk.{Listing, item, Trace, over, gave, lost, onTurn, onRead, traceFrom, trace, first, next}
 use Rattle.lists.specs.declared.Walk.{Walk}
 
 -- what was read ends past its place and in the section

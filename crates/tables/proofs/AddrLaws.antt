@@ -4,10 +4,10 @@ use mathlib.Core.List.{List}
 use Prim.Native.Nat.{ℕ, _+_, _-_, _*_, _%_, _^_, _≤_, _<_}
 use native.Mathlib.Nat.{mod-zero, mod-lt}
 use native.Mathlib.Omega.{arith}
-use lib.Dec.{leb, eqb}
-use lib.ListN.{length, getD, take, drop, length-drop}
+use lib.Dec.{eqb}
+use lib.ListN.{length, getD, take}
 use lib.Seq.{length-take-le}
-use borrow.Author.Tests.{leb-true, le-leb, lt-leb, eq-eqb, ne-eqb}
+use borrow.Author.Tests.{le-leb, lt-leb, eq-eqb, ne-eqb}
 use Rattle.bytes.specs.Read.{Read, got, refused, gives, andThen, result}
 use Rattle.bytes.specs.Error.{refusal, refusing, told, toldPlace}
 use Rattle.bytes.specs.Common.{initialLengthSize}
@@ -35,7 +35,8 @@ use Rattle.tables.specs.declared.addr.AddrHeaderAnswer.{AddrHeaderAnswer
 use Rattle.tables.specs.declared.addr.AddrHeaderAnswer.the-variants as header
 use Rattle.tables.specs.declared.addr.AddrHeaderIter.{AddrHeaderIter}
 use Rattle.tables.specs.declared.addr.AddrEntryIter.{AddrEntryIter}
-use Rattle.tables.proofs.HeaderLaws.{then-ind, skip-reached, got-is, head-is, head-fits, head-then, no-head-then}
+use Rattle.bytes.proofs.Inside.{then-ind, skip-inside, part-fits}
+use Rattle.tables.proofs.HeaderLaws.{got-is, head-is, head-fits, head-then, no-head-then}
 
 -- the address of an index, by the place of its row
 module _ (o : RunTimeEndian) (size : ℕ) (base : DebugAddrBase) (index : DebugAddrIndex) (s : List ℕ) {r : Place}
@@ -115,7 +116,7 @@ module _ (o : RunTimeEndian) (s : List ℕ) (at : ℕ) {r : HeadAnswer} (p : tol
           pub table-inside : d ≤ h .end
           table-inside =
               let e : skip m (take (h .end) s) c ≡ got tt d = sym k ∙ rw w in
-              omega (arith, unit-of, skip-reached m (take (h .end) s) c e .1)
+              omega (arith, unit-of, skip-inside m (take (h .end) s) c e .1)
 
           pub table-got : addrHeader o s at ≡ got (tableOf at h d) (h .end)
           table-got = by-padding ∙ at-then _ k w
@@ -137,15 +138,6 @@ module _ (o : RunTimeEndian) (s : List ℕ) (w : AddrHeaderIter) where
 
       pub header-refused : {e : Error} → r ≡ header.Refused e → nextHeader o s w ≡ stopped e (headersAt (length s))
       header-refused q = by-header ∙ rw (← p, q)
-
--- a part that is not empty lies in the section
-pub part-fits : (s : List ℕ) (offset len : ℕ) → (length (partOf s offset len) ≡ 0 → ⊥)
-    → (offset + len ≤ length s) × (length (partOf s offset len) ≡ len)
-unfolding partOf
-part-fits s offset len =
-    pick-ind (λ (l : List ℕ). (length l ≡ 0 → ⊥) → (offset + len ≤ length s) × (length l ≡ len)) (leb (offset + len) (length s))
-    (λ h z. let i = leb-true _ _ h in (i, length-take-le len (drop offset s) (rw (length-drop offset s) (omega arith))))
-    (λ h z. absurd (z refl))
 
 -- the walk at the end of its part, as the code makes it
 abbrev pub emptied : AddrEntryIter → AddrEntryIter

@@ -4,13 +4,13 @@ use mathlib.Core.Bool.{true}
 use mathlib.Core.List.{List}
 use Prim.Native.Nat.{ℕ, _+_, _≤_, _<_}
 use native.Mathlib.Omega.{arith}
-use lib.Dec.{leb, eqb}
+use lib.Dec.{eqb}
 use lib.ListN.{length, take}
 use lib.Seq.{length-take-le}
-use borrow.Author.Tests.{leb-true, le-leb, lt-leb, eq-eqb, ne-eqb}
+use borrow.Author.Tests.{le-leb, lt-leb, eq-eqb, ne-eqb}
 use Rattle.bytes.specs.Read.{Read, got, refused, gives, andThen, result, pick}
 use Rattle.bytes.specs.Error.{refusal, refusing, told, toldLength}
-use Rattle.bytes.specs.Reader.{skip, uint, isSize, addressSize, initialLength, truncate}
+use Rattle.bytes.specs.Reader.{uint, isSize, addressSize, initialLength, truncate}
 use Rattle.bytes.specs.declared.common.Encoding.{Encoding}
 use Rattle.bytes.specs.declared.common.DwarfFileType.{DwarfFileType}
 use Rattle.bytes.specs.declared.common.DwarfFileType.the-variants.{Main, Dwo}
@@ -26,17 +26,12 @@ use Rattle.bytes.specs.declared.InitialLength.the-variants as initial
 use Rattle.bytes.proofs.ReaderLaws.{got-then, refused-then, size-range}
 use Rattle.bytes.proofs.ReaderTook.{uint-took}
 use Rattle.bytes.proofs.Took.{pick-ind}
+use Rattle.bytes.proofs.Inside.{then-ind, truncate-inside, address-size-is}
 use Rattle.tables.specs.Header.{toldHead, passedHead, headOf, fields, head}
 use Rattle.tables.specs.Lists.{parsed, headerOf, restOf, listsHeader, headerSize, defaultBase}
 use Rattle.tables.specs.declared.header.Head.{Head}
 use Rattle.tables.specs.declared.header.HeadAnswer.{HeadAnswer}
 use Rattle.tables.specs.declared.header.HeadAnswer.the-variants as answer
-
--- what holds of a refusal, and of all that may follow a value that was read, holds of the whole
-pub then-ind : {A B : Type 0} (P : Read B → Type 0) (r : Read A) (f : A → ℕ → Read B) → ((n : ℕ) (vs : List ℕ) → P (refused n vs))
-    → ((v : A) (c : ℕ) → r ≡ got v c → P (f v c)) → P (andThen r f)
-then-ind P (got v c) f n g = g v c refl
-then-ind P (refused k vs) f n g = n k vs
 
 -- what an answer told, taken apart
 pub got-is : {r : Num} {d : Read ℕ} {v c : ℕ} → told r ≡ d → r ≡ num.Got v c → d ≡ got v c
@@ -45,49 +40,14 @@ got-is p q = sym p ∙ rw q
 pub head-is : {r : HeadAnswer} {d : Read Head} {h : Head} {c : ℕ} → toldHead r ≡ d → r ≡ answer.Got h c → d ≡ got h c
 head-is p q = sym p ∙ rw q
 
--- a place that was reached by n bytes
-abbrev Reached : ℕ → List ℕ → ℕ → Read Unit → Type 0
-Reached n s at (got v c) = (c ≡ at + n) × (c ≤ length s)
-Reached n s at (refused k vs) = Unit
-
--- a section that was cut after n bytes
-abbrev Cut : ℕ → List ℕ → ℕ → Read ℕ → Type 0
-Cut n s at (got e d) = (e ≡ at + n) × (e ≤ length s) × (d ≡ at)
-Cut n s at (refused k vs) = Unit
-
 module _ (n : ℕ) (s : List ℕ) (at : ℕ) where
-  reached : Reached n s at (skip n s at)
-  unfolding skip
-  reached = pick-ind (Reached n s at) (leb (at + n) (length s)) (λ h. (refl, leb-true _ _ h)) (λ h. tt)
-
-  pub skip-reached : {v : Unit} {c : ℕ} → skip n s at ≡ got v c → (c ≡ at + n) × (c ≤ length s)
-  skip-reached e = rw e at reached
-
-  cut : Cut n s at (truncate n s at)
-  unfolding truncate
-  cut = then-ind (Cut n s at) (skip n s at) _ (λ k vs. tt) (λ v c e. (skip-reached e .0, skip-reached e .1, refl))
-
-  pub truncate-cut : {e d : ℕ} → truncate n s at ≡ got e d → (e ≡ at + n) × (e ≤ length s) × (d ≡ at)
-  truncate-cut q = rw q at cut
-
   pub uint-inside : (o : RunTimeEndian) {v c : ℕ} → uint o n s at ≡ got v c → c ≤ length s
   uint-inside o e = (rw e at (uint-took s s n at o)) .1
 
-abbrev Sized : Read ℕ → Type 0
-Sized (got n c) = isSize n ≡ true
-Sized (refused k vs) = Unit
-
 module _ (s : List ℕ) (at : ℕ) where
-  sized : Sized (addressSize s at)
-  unfolding addressSize
-  sized = then-ind Sized (uint Little 1 s at) _ (λ k vs. tt) (λ v c e. pick-ind Sized (isSize v) (λ h. h) (λ h. tt))
-
-  pub size-is : {n c : ℕ} → addressSize s at ≡ got n c → isSize n ≡ true
-  size-is e = rw e at sized
-
   -- a size that was read is a byte
   pub size-small : {r : Num} {n c : ℕ} → told r ≡ addressSize s at → r ≡ num.Got n c → n ≤ 8
-  size-small {n = n} p q = size-range n (size-is (got-is p q)) .1
+  size-small {n = n} p q = size-range n (address-size-is s at (got-is p q)) .1
 
 -- fields that were read in the bytes up to an end: it is the end that they tell, and they lie before it
 abbrev Within : ℕ → Read Head → Type 0
@@ -115,14 +75,14 @@ fields-within o unit u at =
     pick-ind (Within (length unit)) (eqb v 5) (λ h.
     then-ind (Within (length unit)) (addressSize unit c) _ (λ k vs. tt) (λ size d z.
     then-ind (Within (length unit)) (uint Little 1 unit d) _ (λ k vs. tt) (λ g b y.
-    pick-ind (Within (length unit)) (eqb g 0) (λ x. (refl, uint-inside 1 unit d Little y, size-is unit c z)) (λ x. tt)))) (λ h. tt))
+    pick-ind (Within (length unit)) (eqb g 0) (λ x. (refl, uint-inside 1 unit d Little y, address-size-is unit c z)) (λ x. tt)))) (λ h. tt))
 
 head-inside : (o : RunTimeEndian) (s : List ℕ) (at : ℕ) → Inside s (head o s at)
 unfolding head
 head-inside o s at =
     then-ind (Inside s) (initialLength o s at) _ (λ k vs. tt) (λ u c e.
     then-ind (Inside s) (truncate (u .length) s c) _ (λ k vs. tt) (λ end d z.
-    let l = truncate-cut (u .length) s c z .1 in
+    let l = truncate-inside (u .length) s c z .1 in
     within-inside s end (fields o (take end s) u d) l (rw (length-take-le end s l) at (fields-within o (take end s) u d))))
 
 pub head-fits : (o : RunTimeEndian) (s : List ℕ) (at : ℕ) {h : Head} {c : ℕ} → head o s at ≡ got h c → Fits s h c
@@ -195,7 +155,7 @@ module _ (o : RunTimeEndian) (s : List ℕ) (at : ℕ) {r : InitialLength} (p : 
 
     module _ {end d : ℕ} (w : t ≡ num.Got end d) where
       cut-at : (end ≡ c + u .length) × (end ≤ length s) × (d ≡ c)
-      cut-at = truncate-cut (u .length) s c (got-is k w)
+      cut-at = truncate-inside (u .length) s c (got-is k w)
 
       pub unit-length : end ≡ length (take end s)
       unit-length = sym (length-take-le end s (cut-at .1))
