@@ -1,3 +1,4 @@
+pub mod Order
 pub mod Took
 pub mod Values
 pub mod ReaderLaws
@@ -6,3 +7,5 @@ pub mod AddressLaws
 pub mod LebLaws
 pub mod LebTook
 pub mod Inside
+pub mod WrittenLaws
+pub mod PutLaws

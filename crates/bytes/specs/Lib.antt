@@ -6,3 +6,4 @@ pub mod Swap
 pub mod Leb128
 pub mod Reader
 pub mod Address
+pub mod Written

@@ -1,9 +1,10 @@
-// Numbers read from lent bytes: a place in a section goes in, a value with the place after it comes out.
+// Numbers read from lent bytes, and put into them: a place in a section goes in, a value with the place after it comes out.
 pub mod address;
 pub mod common;
 pub mod endianity;
 pub mod error;
 pub mod leb128;
+pub mod put;
 pub mod reader;
 
 use common::Format;

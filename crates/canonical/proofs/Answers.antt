@@ -17,7 +17,7 @@ use Rattle.coverage.specs.declared.Wrote.the-variants as wrote
 use Rattle.coverage.proofs.Checked.{lawful-few, lawful-apart}
 use Rattle.coverage.proofs.OutputLaws.{written-refused, written-short}
 use Rattle.coverage.proofs.Sources.{kept-bytes}
-use Rattle.coverage.proofs.PutLaws.{all-written}
+use Rattle.coverage.proofs.OutputLaws.{all-written}
 use Rattle.canonical.specs.Arrays.{Arrays, firsts}
 use Rattle.canonical.specs.Put.{Put}
 

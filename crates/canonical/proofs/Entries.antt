@@ -10,11 +10,11 @@ use lib.ListN.{length, drop, getD, set, length-append, length-set}
 use lib.Seq.{sets, length-sets}
 use Rattle.bytes.specs.Read.{pick}
 use Rattle.coverage.specs.Ranges.{Range, From, limit}
-use Rattle.coverage.specs.Written.{littleBytes, unsignedBytes}
+use Rattle.bytes.specs.Written.{littleBytes, unsignedBytes}
 use Rattle.coverage.specs.Canonical.{entryBytes, canonicalBytes}
 use Rattle.coverage.proofs.KeptLaws.{next-range, no-range}
-use Rattle.coverage.proofs.WrittenLaws.{length-little}
-use Rattle.coverage.proofs.PutLaws.{sets-append, put-room}
+use Rattle.bytes.proofs.WrittenLaws.{length-little}
+use Rattle.bytes.proofs.PutLaws.{sets-append, put-room}
 use Rattle.canonical.specs.Arrays.{Arrays, firsts}
 use Rattle.canonical.proofs.Unsigned.{unsigned-length}
 

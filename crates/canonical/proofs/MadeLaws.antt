@@ -3,11 +3,10 @@ use mathlib.Core.List.{List}
 use mathlib.Core.Path.{_≡_, refl, sym, ap, _∙_}
 use Prim.Native.Nat.{ℕ}
 use Rattle.bytes.specs.Read.{Result, gives, refuses}
-use Rattle.bytes.specs.declared.error.Error.{Error}
 use Rattle.coverage.specs.Ranges.{Range}
 use Rattle.coverage.specs.Covered.{Source, mapped, coverageOf, Bytes}
 use Rattle.coverage.specs.Canonical.{canonicalBytes, canonicalOf}
-use Rattle.coverage.specs.Output.{Output, output, written}
+use Rattle.coverage.specs.Output.{output, written}
 use Rattle.coverage.specs.Told.{Answer, made}
 use Rattle.coverage.proofs.Sources.{kept-canonical}
 use Rattle.canonical.specs.Made.{canonicalMade}

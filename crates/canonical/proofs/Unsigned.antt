@@ -9,9 +9,9 @@ use native.Mathlib.Numerals.{add-one}
 use native.Mathlib.Omega.{arith}
 use lib.ListN.{length, set, length-set}
 use lib.Seq.{sets}
-use Rattle.coverage.specs.Written.{unsignedIn, unsignedBytes}
-use Rattle.coverage.proofs.RangeLaws.{lt-or-le}
-use Rattle.coverage.proofs.WrittenLaws.{unsigned-short, unsigned-long}
+use Rattle.bytes.specs.Written.{unsignedIn, unsignedBytes}
+use Rattle.bytes.proofs.Order.{lt-or-le}
+use Rattle.bytes.proofs.WrittenLaws.{unsigned-short, unsigned-long}
 
 unsigned-last : (k x : ℕ) → x < 128 → unsignedIn k x ≡ x ∷ []
 unfolding unsignedIn

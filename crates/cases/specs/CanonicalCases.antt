@@ -14,7 +14,7 @@ use Rattle.lists.specs.Walk.{traceFrom, trace}
 use Rattle.coverage.specs.Ranges.{insert, inserts}
 use Rattle.coverage.specs.Covered.{Source, rangeList, yieldedIn, traceOf, yieldedOf, coverageOf}
 use Rattle.coverage.specs.Kept.{lawfulFrom}
-use Rattle.coverage.specs.Written.{littleBytes, unsignedIn}
+use Rattle.bytes.specs.Written.{littleBytes, unsignedIn}
 use Rattle.coverage.specs.Sheet.{addressBytes, sheetBytes, addressesIn, isSheet, sheetRanges}
 use Rattle.coverage.specs.Canonical.{entryBytes, canonicalBytes, canonicalOf}
 

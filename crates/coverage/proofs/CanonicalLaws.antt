@@ -29,9 +29,9 @@ use Rattle.lists.specs.Walks.{InBounds}
 use Rattle.lists.proofs.Local.{past}
 use Rattle.lists.proofs.WalkLaws.{Moved, met-entry, met-end}
 use Rattle.coverage.specs.Ranges.{Range}
-use Rattle.coverage.specs.Written.{littleBytes, unsignedBytes}
+use Rattle.bytes.specs.Written.{littleBytes, unsignedBytes}
 use Rattle.coverage.specs.Canonical.{entryBytes, canonicalBytes, canonicalEncoding}
-use Rattle.coverage.proofs.WrittenLaws.{length-little, little-back, unsigned-back, append-bytes, little-bytes, unsigned-bytes}
+use Rattle.bytes.proofs.WrittenLaws.{length-little, little-back, unsigned-back, append-bytes, little-bytes, unsigned-bytes}
 
 -- each range of a list has a property of its begin and end
 abbrev pub All : (ℕ → ℕ → Type 0) → List Range → Type 0

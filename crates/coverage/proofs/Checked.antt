@@ -11,7 +11,7 @@ use Rattle.bytes.specs.Address.{minTombstone}
 use Rattle.coverage.specs.Ranges.{Range, Apart, limit}
 use Rattle.coverage.specs.Kept.{paired, rangesOf, lawfulFrom, lawfulSheet}
 use Rattle.coverage.specs.declared.Coverage.{Coverage}
-use Rattle.coverage.proofs.RangeLaws.{lt-or-le}
+use Rattle.bytes.proofs.Order.{lt-or-le}
 use Rattle.coverage.proofs.KeptLaws.{next-range, no-range, lawful-first, not-above, not-proper, not-below, lawful-from, sheet-many, sheet-test}
 
 pub record Checked (bs es : List ℕ) (n i last : ℕ) : Type 0 where

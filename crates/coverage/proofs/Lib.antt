@@ -1,6 +1,5 @@
 pub mod RangeLaws
 pub mod SortLaws
-pub mod WrittenLaws
 pub mod CanonicalLaws
 pub mod CoveredLaws
 pub mod KeptLaws
@@ -11,4 +10,3 @@ pub mod GatherLaws
 pub mod Sources
 pub mod Demand
 pub mod Checked
-pub mod PutLaws

@@ -5,17 +5,10 @@ use mathlib.Core.List.{List, [], _∷_}
 use mathlib.Core.Logic.{_⊎_, _↔_, inl, inr, ⊎-elim}
 use Prim.Native.Nat.{ℕ, suc, _+_, _≤_, _<_, min, max}
 use native.Mathlib.Omega.{arith}
-use native.Mathlib.Decide.{decLt}
 use lib.ListN.{length}
 use borrow.Author.Tests.{lt-ltb, le-ltb}
+use Rattle.bytes.proofs.Order.{lt-or-le}
 use Rattle.coverage.specs.Ranges.{Range, Inside, Covers, From, Apart, insert, inserts, runs}
-
-of-dec : (a b : ℕ) → Dec (a < b) → (a < b) ⊎ (b ≤ a)
-of-dec a b (yes h) = inl h
-of-dec a b (no h) = inr (omega arith)
-
-pub lt-or-le : (a b : ℕ) → (a < b) ⊎ (b ≤ a)
-lt-or-le a b = of-dec a b (decLt a b)
 
 -- the three ways in which a range is put in
 module _ (b e : ℕ) (r : Range) (rs : List Range) where

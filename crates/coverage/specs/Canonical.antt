@@ -11,7 +11,7 @@ use Rattle.bytes.specs.declared.error.Error.the-variants.{BadSheet}
 use Rattle.coverage.specs.Ranges.{Range}
 use Rattle.coverage.specs.Covered.{Source, source, rangeList, mapped, coverageOf}
 use Rattle.coverage.specs.Kept.{rangesOf, lawfulSheet}
-use Rattle.coverage.specs.Written.{littleBytes, unsignedBytes}
+use Rattle.bytes.specs.Written.{littleBytes, unsignedBytes}
 use Rattle.coverage.specs.declared.Coverage.{Coverage}
 
 -- a range's entry of kind 7: its begin in 8 bytes, its length in shortest form

@@ -10,7 +10,7 @@ use Rattle.bytes.specs.Endianity.{little}
 use Rattle.bytes.specs.declared.error.Error.the-variants.{BadSheet}
 use Rattle.coverage.specs.Ranges.{Range, limit}
 use Rattle.coverage.specs.Kept.{paired, begins, ends, rangesOf, lawfulFrom, lawfulSheet}
-use Rattle.coverage.specs.Written.{littleBytes}
+use Rattle.bytes.specs.Written.{littleBytes}
 use Rattle.coverage.specs.declared.Coverage.{Coverage}
 
 -- addresses of a sheet, 8 bytes each

@@ -1,7 +1,6 @@
 // Coverage of a list: the addresses that it covers, as their longest unbroken runs.
 pub mod collect;
 pub mod lawful;
-pub mod put;
 pub mod sort;
 
 use bytes::error::Error;

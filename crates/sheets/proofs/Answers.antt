@@ -21,7 +21,7 @@ use Rattle.coverage.proofs.Checked.{lawful-few}
 use Rattle.coverage.proofs.KeptLaws.{length-paired, begins-paired, ends-paired, sheet-test}
 use Rattle.coverage.proofs.SheetLaws.{sheet-kept, no-sheet-kept}
 use Rattle.coverage.proofs.OutputLaws.{written-refused, written-short}
-use Rattle.coverage.proofs.PutLaws.{all-written}
+use Rattle.coverage.proofs.OutputLaws.{all-written}
 use Rattle.sheets.proofs.Putting.{take-paired, sheet-length}
 use Rattle.sheets.proofs.Getting.{length-in}
 

@@ -11,12 +11,12 @@ use lib.Seq.{sets, length-sets, drop-cons, getD-take, length-take-le}
 use Rattle.bytes.specs.Read.{pick}
 use Rattle.coverage.specs.Ranges.{Range, limit}
 use Rattle.coverage.specs.Kept.{paired}
-use Rattle.coverage.specs.Written.{littleBytes}
+use Rattle.bytes.specs.Written.{littleBytes}
 use Rattle.coverage.specs.Sheet.{addressBytes, sheetBytes}
 use Rattle.coverage.proofs.KeptLaws.{length-paired, begins-paired, ends-paired}
 use Rattle.coverage.proofs.SheetLaws.{length-addresses}
-use Rattle.coverage.proofs.WrittenLaws.{length-little}
-use Rattle.coverage.proofs.PutLaws.{sets-append, put-room}
+use Rattle.bytes.proofs.WrittenLaws.{length-little}
+use Rattle.bytes.proofs.PutLaws.{sets-append, put-room}
 
 addresses-first : (a : ℕ) (l : List ℕ) → addressBytes (a ∷ l) ≡ littleBytes 8 a ++ addressBytes l
 unfolding addressBytes

@@ -10,7 +10,7 @@ use coverage::Made;
 use coverage::Verdict;
 use coverage::Wrote;
 use coverage::lawful::is_lawful;
-use coverage::put::put_u64;
+use bytes::put::put_u64;
 ghost use mathlib.Core.Path.{_≡_};
 ghost use Prim.Native.Nat.{_+_, _*_, _≤_};
 ghost use lib.ListN.{length, take, drop};

@@ -9,12 +9,12 @@ use native.Mathlib.Omega.{arith}
 use lib.Dec.{eqb, ltb}
 use lib.ListN.{length, getD, drop}
 use borrow.Author.Tests.{lt-ltb, le-ltb, ne-eqb, eq-eqb, ltb-true, ltb-false}
 use Rattle.bytes.specs.Read.{Read, got, refused}
 use Rattle.bytes.specs.Endianity.{little}
 use Rattle.bytes.specs.Leb128.{below, unsignedFrom, unsigned}
 use Rattle.bytes.proofs.Took.{pick-ind}
-use Rattle.coverage.specs.Written.{littleBytes, unsignedIn, unsignedBytes}
-use Rattle.coverage.proofs.RangeLaws.{lt-or-le}
+use Rattle.bytes.specs.Written.{littleBytes, unsignedIn, unsignedBytes}
+use Rattle.bytes.proofs.Order.{lt-or-le}
 
 pub length-little : (k x : ℕ) → length (littleBytes k x) ≡ k
 unfolding littleBytes

@@ -1,18 +1,16 @@
 -- Bytes written one after another: what is still to be written, over what stands there now, is the same all along.
 -- Assumes nothing.
-use mathlib.Core.Path.{_≡_, sym, subst, _∙_}
+use mathlib.Core.Path.{_≡_, subst, _∙_}
 use mathlib.Core.List.{List, [], _∷_, _++_}
 use Prim.Native.Nat.{ℕ, suc, _+_, _-_, _/_, _%_, _≤_, _<_}
 use native.Mathlib.Omega.{arith}
 use native.Mathlib.Numerals.{add-one}
 use lib.Dec.{leb}
 use lib.ListN.{length, set, length-set}
-use lib.Seq.{sets, sets-eq}
+use lib.Seq.{sets}
 use borrow.Author.Tests.{le-leb, lt-leb}
-use Rattle.bytes.specs.Read.{gives, pick}
-use Rattle.coverage.specs.Written.{littleBytes}
-use Rattle.coverage.specs.Output.{output, written}
-use Rattle.coverage.proofs.OutputLaws.{written-fits}
+use Rattle.bytes.specs.Read.{pick}
+use Rattle.bytes.specs.Written.{littleBytes}
 
 pub sets-append : (l : List ℕ) (i : ℕ) (vs ws : List ℕ) → sets l i (vs ++ ws) ≡ sets (sets l i vs) (i + length vs) ws
 sets-append l i [] ws = let e : i + 0 ≡ i = omega arith in rw e
@@ -49,10 +47,3 @@ module _ (l : List ℕ) (at n : ℕ) (m : List ℕ) where
 
   pub put-none : length l < at + n → pick (leb (at + n) (length l)) m l ≡ l
   put-none h = rw (lt-leb (at + n) (length l) h)
-
--- bytes written from the output's begin on are what a call that writes them leaves
-pub all-written : (bs l : List ℕ) {n : ℕ} {m : List ℕ} → n ≡ length bs → n ≤ length l → m ≡ sets l 0 bs → output (gives n) m ≡ written (gives bs) l
-all-written bs l p h q =
-    let k : length bs ≤ length l = omega arith in
-    let z : 0 + length bs ≡ length bs = omega arith in
-    rw (p, q, sets-eq bs l 0 (omega arith), z) (sym (written-fits bs l k))

@@ -2,9 +2,9 @@
 use mathlib.Core.Path.{sym, _∙_}
 use native.Mathlib.Omega.{arith}
 use borrow.Author.Needs.{needs}
-use Rattle.coverage.proofs.PutLaws.{put-room, put-none}
-use Rattle.coverage.proofs.put.put_u64.Statement.{statement}
-use Rattle.coverage.proofs.put.put_u64.Tie as tie
+use Rattle.bytes.proofs.PutLaws.{put-room, put-none}
+use Rattle.bytes.proofs.put.put_u64.Statement.{statement}
+use Rattle.bytes.proofs.put.put_u64.Tie as tie
 
 returns : tie.Need-returns
 returns c = sym (put-none _ (c .before .before .args .at) 8 _ (omega arith))

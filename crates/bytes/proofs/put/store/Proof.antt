@@ -2,9 +2,9 @@
 -- Assumes nothing.
 use mathlib.Core.Path.{refl}
 use native.Mathlib.Omega.{arith}
-use Rattle.coverage.proofs.PutLaws.{LittleLeft, little-step, little-end}
-use Rattle.coverage.proofs.put.store.Statement.{statement}
-use Rattle.coverage.proofs.put.store.Tie as tie
+use Rattle.bytes.proofs.PutLaws.{LittleLeft, little-step, little-end}
+use Rattle.bytes.proofs.put.store.Statement.{statement}
+use Rattle.bytes.proofs.put.store.Tie as tie
 
 abbrev Inv-loop : tie.InvT-loop
 Inv-loop out₀ at x p₀ rest₀ k₀ out p rest k = LittleLeft out₀ at x out p rest k
