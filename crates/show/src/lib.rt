@@ -8,6 +8,10 @@ ghost use mathlib.Core.Path.{_≡_};
 ghost use Rattle.show.specs.Show.{isGiven};
 ghost use Rattle.coverage.specs.Sheet.{sheetRanges};
 
+// The bytes of a sheet of one range more than a coverage keeps, and one more: such a sheet is refused for its count, and a
+// longer input for its length, neither because it was cut.
+const ROOM: usize = 4 + 16 * (LIMIT + 1) + 1;
+
 fn print_refusal(e: Error) {
     io::write_all(STDOUT_FILENO, b"refused ");
     io::print_decimal(STDOUT_FILENO, e.number());
@@ -55,4 +59,11 @@ pub fn show(sheet: &[u8]) -> bool
             true
         }
     }
+}
+
+// The same of the bytes of an open file.
+pub fn show_input(file: i32) {
+    let mut sheet = [0u8; ROOM];
+    let n = io::read_full(file, &mut sheet);
+    show(&sheet[..n]);
 }
