@@ -302,9 +302,11 @@ fn unknown(ask: &mut dyn FnMut(&Call)) {
 fn edges(ask: &mut dyn FnMut(&Call)) {
     for size in SIZES {
         let top = top(size);
-        for (list, version) in [(0, 4), (0, 5)] {
+        for (list, version) in [(0, 4), (0, 5), (1, 4), (1, 5), (2, 4)] {
             let shape = Shape { list, version, size, big_endian: size % 2 == 0 };
-            for base in [top - 2, top - 1, top, top - 9] {
+            // gimli converts locations by code of their own: there the bound itself will do.
+            let bases = [top - 2, top - 1, top, top - 9];
+            for &base in &bases[if shape.located() { 1..2 } else { 0..4 }] {
                 let pairs =
                     [(0, 1), (2, 1), (1, 8), (5, 0xb), (0xa, 0xc), (top - 1, top), (3, top)];
                 let entries =

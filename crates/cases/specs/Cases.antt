@@ -94,6 +94,11 @@ at-tombstone : range 5 4 (0x04 ∷ 0x00 ∷ 0x01 ∷ 0x00 ∷ []) 0 0xfffffffe �
 unfolding rangesIn
 at-tombstone = refl
 
+base-at-tombstone : range 5 4 (0x04 ∷ 0x80 ∷ 0x02 ∷ 0x90 ∷ 0x02 ∷ 0x00 ∷ []) 0 0xfffffffe
+    ≡ gives (over (walkAt 6 0xfffffffe))
+unfolding rangesIn
+base-at-tombstone = refl
+
 wrapped-sum : range 5 4 (0x04 ∷ 0x80 ∷ 0x02 ∷ 0x90 ∷ 0x02 ∷ 0x00 ∷ []) 0 0xffffff00
     ≡ gives (gave (item 0 0x10 tt) (walkAt 5 0xffffff00) (over (walkAt 6 0xffffff00)))
 unfolding rangesIn
@@ -124,11 +129,20 @@ tenth-02 : unsigned (tenth 0x02) 0 ≡ refused 2 []
 unfolding unsigned unsignedFrom
 tenth-02 = refl
 
--- bare pairs
+-- bare pairs: a base and a pair; a pair of equal numbers, which ends nothing; the end pair, after which nothing is read
 bare-pairs : range 4 2 (0xff ∷ 0xff ∷ 0x00 ∷ 0x20 ∷ 0x01 ∷ 0x00 ∷ 0x03 ∷ 0x00 ∷ 0x00 ∷ 0x00 ∷ 0x00 ∷ 0x00 ∷ []) 0 0
     ≡ gives (gave (item 0x2001 0x2003 tt) (walkAt 8 0x2000) (over (walkAt 12 0x2000)))
 unfolding rangesIn
 bare-pairs = refl
+
+equal-pair : range 4 2 (0x05 ∷ 0x00 ∷ 0x05 ∷ 0x00 ∷ 0x01 ∷ 0x00 ∷ 0x03 ∷ 0x00 ∷ 0x00 ∷ 0x00 ∷ 0x00 ∷ 0x00 ∷ []) 0 0
+    ≡ gives (gave (item 1 3 tt) (walkAt 8 0) (over (walkAt 12 0)))
+unfolding rangesIn
+equal-pair = refl
+
+end-pair : range 4 2 (0x00 ∷ 0x00 ∷ 0x00 ∷ 0x00 ∷ 0x01 ∷ 0x00 ∷ 0x03 ∷ 0x00 ∷ []) 0 0 ≡ gives (over (walkAt 8 0))
+unfolding rangesIn
+end-pair = refl
 
 -- the address table: a list with a row that is not there goes on after the refusal
 by-index : range 5 4 (0x02 ∷ 0x00 ∷ 0x02 ∷ 0x03 ∷ 0x00 ∷ 0x08 ∷ 0x00 ∷ []) 0 0
@@ -230,6 +244,19 @@ split-4 = refl
 split-4-expression : partOf splitList 8 1 ≡ 0x50 ∷ []
 unfolding partOf
 split-4-expression = refl
+
+-- bare locations: the pair, the expression's length in two bytes, the expression; a base and the end pair have none
+abbrev bareList : List ℕ
+bareList = 0xff ∷ 0xff ∷ 0x00 ∷ 0x20 ∷ 0x01 ∷ 0x00 ∷ 0x03 ∷ 0x00 ∷ 0x01 ∷ 0x00 ∷ 0x50 ∷ 0x00 ∷ 0x00 ∷ 0x00 ∷ 0x00 ∷ 0x51 ∷ []
+
+bare-locations : location false 4 2 bareList 0 0
+    ≡ gives (gave (item 0x2001 0x2003 (expression 10 1)) (walkAt 11 0x2000) (over (walkAt 16 0x2000)))
+unfolding location
+bare-locations = refl
+
+bare-expression : partOf bareList 10 1 ≡ 0x50 ∷ []
+unfolding partOf
+bare-expression = refl
 
 -- rows 1 to 4 of the refusals: a raw refusal empties the walk
 refusal-1 : range 5 4 (0x06 ∷ 0x10 ∷ 0x00 ∷ []) 0 0 ≡ gives (lost 1 [] (walkAt 3 0) (over (walkAt 3 0)))

@@ -24,10 +24,10 @@ pub enum Data {
 pub(crate) fn read_length(part: &[u8], at: usize, encoding: Encoding, endian: RunTimeEndian) -> Num
     ensures { λ r. ⌜ told r ≡ byVersion 4 encoding endian (now (part .entry)) at ⌝ }
 {
-    if 5 <= encoding.version {
-        return bytes::leb128::unsigned(part, at);
+    if encoding.version <= 4 {
+        return bytes::reader::read_u32(part, at, endian);
     }
-    bytes::reader::read_u32(part, at, endian)
+    bytes::leb128::unsigned(part, at)
 }
 
 // A refusal of a length passed on.

@@ -8,6 +8,10 @@ ghost use mathlib.Core.Path.{_≡_};
 ghost use Rattle.show.specs.Show.{isGiven};
 ghost use Rattle.coverage.specs.Sheet.{sheetRanges};
 
+// The bytes of a sheet of one range more than a coverage keeps, and one more: such a sheet is refused for its count, and a
+// longer input for its length, neither because it was cut.
+pub const ROOM: usize = 4 + 16 * (LIMIT + 1) + 1;
+
 fn print_refusal(e: Error) {
     io::write_all(STDOUT_FILENO, b"refused ");
     io::print_decimal(STDOUT_FILENO, e.number());

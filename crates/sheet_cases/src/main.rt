@@ -1,0 +1,29 @@
+// The program over sheets on a folder of inputs: each one's name, and what the program prints for it.
+use libc::STDOUT_FILENO;
+
+fn run(name: &[u8]) {
+    io::write_all(STDOUT_FILENO, name);
+    io::write_all(STDOUT_FILENO, b"\n");
+    let file = os::open_read(name);
+    if file < 0 {
+        io::write_all(STDOUT_FILENO, b"not there\n");
+        return;
+    }
+    let mut sheet = [0u8; show::ROOM];
+    let n = io::read_full(file, &mut sheet);
+    show::show(&sheet[..n]);
+    libc::close(file);
+}
+
+fn main() {
+    run(b"empty");
+    // Document 01's example of refusal 12.
+    run(b"count_alone");
+    run(b"no_ranges");
+    run(b"cut");
+    run(b"trailing");
+    run(b"full");
+    // 1,025 lawful ranges, in as many bytes as they take: the count alone is refused.
+    run(b"over");
+    run(b"long");
+}
