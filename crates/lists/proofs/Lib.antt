@@ -1,5 +1,6 @@
 pub mod WalkLaws
 pub mod Past
+pub mod ListedLaws
 pub mod ConvertLaws
 pub mod Theorems
 pub mod CallLaws

@@ -1,8 +1,8 @@
 -- By the code. Assumes nothing.
 use borrow.Author.Tests.{ne-eqb}
 use Rattle.entries.specs.Heads.{locatedAs}
-use Rattle.entries.proofs.loclists.located.Statement.{statement}
-use Rattle.entries.proofs.loclists.located.Tie as tie
+use Rattle.entries.proofs.raw.located.Statement.{statement}
+use Rattle.entries.proofs.raw.located.Tie as tie
 
 returns : tie.Need-returns
 unfolding locatedAs

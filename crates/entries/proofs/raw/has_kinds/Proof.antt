@@ -1,7 +1,7 @@
 -- By whether the list is split. Assumes nothing.
 use borrow.Author.Needs.{needs}
-use Rattle.entries.proofs.loclists.has_kinds.Statement.{statement}
-use Rattle.entries.proofs.loclists.has_kinds.Tie as tie
+use Rattle.entries.proofs.raw.has_kinds.Statement.{statement}
+use Rattle.entries.proofs.raw.has_kinds.Tie as tie
 
 returns : tie.Need-returns
 returns c = search needs

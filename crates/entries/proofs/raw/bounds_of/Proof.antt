@@ -1,7 +1,7 @@
 -- Each case of the definition. Assumes nothing.
 use borrow.Author.Needs.{needs}
-use Rattle.lists.proofs.convert.bounds_of.Statement.{statement}
-use Rattle.lists.proofs.convert.bounds_of.Tie as tie
+use Rattle.entries.proofs.raw.bounds_of.Statement.{statement}
+use Rattle.entries.proofs.raw.bounds_of.Tie as tie
 
 enum-known-raw : tie.Need-enum-known-raw
 enum-known-raw c = search needs

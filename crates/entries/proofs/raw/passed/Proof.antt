@@ -1,7 +1,7 @@
 -- A refusal that is passed on is told as it was. Assumes nothing.
 use borrow.Author.Needs.{needs}
-use Rattle.entries.proofs.loclists.passed.Statement.{statement}
-use Rattle.entries.proofs.loclists.passed.Tie as tie
+use Rattle.entries.proofs.raw.passed.Statement.{statement}
+use Rattle.entries.proofs.raw.passed.Tie as tie
 
 enum-told : tie.Need-enum-told
 enum-told c = search needs
