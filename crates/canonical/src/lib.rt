@@ -2,11 +2,11 @@
 pub mod of_list;
 
 use bytes::error::Error;
+use bytes::put::put_u64;
 use coverage::Coverage;
 use coverage::LIMIT;
 use coverage::Wrote;
 use coverage::lawful::is_lawful;
-use bytes::put::put_u64;
 ghost use mathlib.Core.Path.{_≡_};
 ghost use Prim.Native.Nat.{_+_, _≤_};
 ghost use lib.ListN.{length};

@@ -11,14 +11,18 @@ use lib.ListN.{length, take, getD, set, replicate, length-take, length-set, leng
 use lib.Seq.{take-suc-set}
 use Rattle.bytes.specs.Read.{Result, gives, refuses}
 use Rattle.bytes.specs.Error.{number, values, refusing}
+use Rattle.bytes.specs.declared.common.DebugAddrBase.{DebugAddrBase}
+use Rattle.bytes.specs.declared.common.Encoding.{Encoding}
+use Rattle.bytes.specs.declared.endianity.RunTimeEndian.{RunTimeEndian}
 use Rattle.bytes.specs.declared.error.Error.{Error}
 use Rattle.bytes.specs.declared.error.Error.the-variants.{TooManyRanges}
 use Rattle.lists.specs.Open.{opened}
 use Rattle.lists.specs.Convert.{tableAt}
+use Rattle.lists.specs.Walk as both
 use Rattle.lists.specs.Walk.{Item, item, Trace, over, gave, lost, trace}
 use Rattle.lists.specs.declared.Walk.{Walk}
 use Rattle.coverage.specs.Ranges.{Range, Apart, limit, runs}
-use Rattle.coverage.specs.Covered.{mapped, yieldedIn, Source, listed, traceOf, yieldedOf, coverageOf, Bytes}
+use Rattle.coverage.specs.Covered.{mapped, yieldedIn, holding, Source, source, listed, traceOf, yieldedOf, coverageOf, Bytes}
 use Rattle.coverage.specs.Kept.{paired, padded, keptAs}
 use Rattle.coverage.specs.Gathered.{Stored, Zeros, Blank, toldCollected, RunsApart, Asked, Gathered, toldOutcome}
 use Rattle.coverage.specs.Sorted.{Sized, SameFrom, first, ToRuns}
@@ -249,9 +253,25 @@ module _ (x : Source) {w : Walk} (o : opened (x .encoding) (x .section) (x .offs
   walked-apart b = small-apart walked (rw o at (yielded-small x b))
 
   module _ {k : Collected} {bs es : List ℕ} (g : Gathered walked k bs es) where
-    pub gathered-asks : Bytes x → Asked k bs es
+    gathered-asks : Bytes x → Asked k bs es
     gathered-asks b = (g .few, g .sized, rw (g .told) (walked-apart b), g .rest)
 
-    pub gathered-made : {a : Answer} → a ≡ made (mapped runs (toldCollected k bs es)) → a ≡ made (coverageOf x)
+    gathered-made : {a : Answer} → a ≡ made (mapped runs (toldCollected k bs es)) → a ≡ made (coverageOf x)
     unfolding traceOf
     gathered-made e = e ∙ ap (λ (r : Result (List Range)). made (mapped runs r)) (g .told) ∙ ap made (sym (coverage-opened x o))
+
+-- the same of a list by two tests
+module _ (split : Bool) (p : Encoding) (endian : RunTimeEndian) (s : List ℕ) (offset base : ℕ) (table : List ℕ) (tableBase : DebugAddrBase) {w : Walk} (o : opened p s offset base ≡ gives w) where
+  abbrev walkedIn : Bool → Result (List Range)
+  walkedIn l = yieldedIn limit (trace (both.listed l split p endian s) (tableAt endian p tableBase table) (p .«address_size») (length s) w)
+
+  abbrev sourceIn : Bool → Source
+  sourceIn l = source (holding l split) p endian s offset base table tableBase
+
+  pub listed-asks : (l : Bool) {k : Collected} {bs es : List ℕ} → Gathered (walkedIn l) k bs es → Bytes (sourceIn l) → Asked k bs es
+  listed-asks true g b = gathered-asks (sourceIn true) o g b
+  listed-asks false g b = gathered-asks (sourceIn false) o g b
+
+  pub listed-made : (l : Bool) {k : Collected} {bs es : List ℕ} → Gathered (walkedIn l) k bs es → {a : Answer} → a ≡ made (mapped runs (toldCollected k bs es)) → a ≡ made (coverageOf (sourceIn l))
+  listed-made true g e = gathered-made (sourceIn true) o g e
+  listed-made false g e = gathered-made (sourceIn false) o g e

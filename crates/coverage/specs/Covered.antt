@@ -1,5 +1,5 @@
 -- What a list covers, from its bytes alone: the ranges it yields from opening to its first end, and their runs.
-use mathlib.Core.Bool.{Bool}
+use mathlib.Core.Bool.{Bool, true, false}
 use mathlib.Core.List.{List, [], _∷_}
 use Prim.Native.Nat.{ℕ, zero, suc, _<_}
 use lib.ListN.{length, getD}
@@ -37,6 +37,11 @@ yieldedIn (suc room) (gave (item b e d) w t) = mapped (λ rs. (b, e) ∷ rs) (yi
 pub data Holds : Type 0 where
   rangeList : Holds
   locationList : Bool → Holds
+
+-- the same by two tests; a range list is never split
+abbrev pub holding : Bool → Bool → Holds
+holding true split = locationList split
+holding false split = rangeList
 
 -- a list: its sections, offset, base address, address table and table base, version and size, byte order, and what it holds
 -- (document 01, "Demand 3")

@@ -14,7 +14,6 @@ use lists::Opened;
 use lists::Range;
 use lists::Walk;
 use lists::loclists::LocAnswer;
-use lists::rnglists::RngAnswer;
 ghost use mathlib.Core.Path.{_≡_};
 ghost use mathlib.Core.Bool.{true};
 ghost use Prim.Native.Nat.{_≤_};
@@ -24,9 +23,9 @@ ghost use Rattle.bytes.specs.Error.{refusing};
 ghost use Rattle.bytes.specs.Reader.{isSize};
 ghost use Rattle.bytes.specs.declared.common.Format.the-variants.{Dwarf32};
 ghost use Rattle.lists.specs.Convert.{tableAt};
-ghost use Rattle.lists.specs.Walk.{trace, ranges, locations};
+ghost use Rattle.lists.specs.Walk.{trace, listed};
 ghost use Rattle.coverage.specs.Ranges.{limit, runs};
-ghost use Rattle.coverage.specs.Covered.{mapped, yieldedIn, rangeList, locationList, source, coverageOf};
+ghost use Rattle.coverage.specs.Covered.{mapped, yieldedIn, rangeList, locationList, holding, source, coverageOf};
 ghost use Rattle.coverage.specs.Kept.{padded};
 ghost use Rattle.coverage.specs.Told.{made, toldMade};
 ghost use Rattle.coverage.specs.Canonical.{readBack};
@@ -58,70 +57,35 @@ fn store(range: Range, n: usize, begins: &mut [u64; LIMIT], ends: &mut [u64; LIM
     true
 }
 
-// The ranges that a range list yields, at the front of the two arrays: 10 at the first without room, or the walk's first
-// refusal, whichever comes first.
-fn collect_ranges(
+// The ranges that a list yields, at the front of the two arrays: 10 at the first without room, or the walk's first refusal,
+// whichever comes first.
+fn gather(
     section: &[u8],
     debug_addr: &[u8],
     debug_addr_base: DebugAddrBase,
     start: Walk,
     encoding: Encoding,
     endian: RunTimeEndian,
-    begins: &mut [u64; LIMIT],
-    ends: &mut [u64; LIMIT],
-) -> Collected
-    requires { ⌜ isSize (encoding .«address_size») ≡ true ⌝ }
-    requires { ⌜ Blank (now begins) (now ends) ⌝ }
-    ensures { λ r. ⌜ Gathered (yieldedIn limit (trace (ranges encoding endian (now (section .entry))) (tableAt endian encoding «debug_addr_base» (now («debug_addr» .entry))) (encoding .«address_size») (length (now (section .entry))) start)) r (now (begins .exit)) (now (ends .exit)) ⌝ }
-{
-    let mut walk = start;
-    let mut n: usize = 0;
-    loop {
-        match lists::rnglists::next(section, debug_addr, debug_addr_base, walk, encoding, endian) {
-            RngAnswer::Range(range, after) => {
-                if store(range, n, begins, ends) {
-                    n += 1;
-                    walk = after;
-                } else {
-                    return Collected::Refused(Error::TooManyRanges);
-                }
-            }
-            RngAnswer::End(_) => {
-                return Collected::Got(n);
-            }
-            RngAnswer::Refused(e, _) => {
-                return Collected::Refused(e);
-            }
-        }
-    }
-}
-
-// The same of a location list, plain or split.
-fn collect_locations(
-    section: &[u8],
-    debug_addr: &[u8],
-    debug_addr_base: DebugAddrBase,
-    start: Walk,
-    encoding: Encoding,
-    endian: RunTimeEndian,
+    locations: bool,
     split: bool,
     begins: &mut [u64; LIMIT],
     ends: &mut [u64; LIMIT],
 ) -> Collected
     requires { ⌜ isSize (encoding .«address_size») ≡ true ⌝ }
     requires { ⌜ Blank (now begins) (now ends) ⌝ }
-    ensures { λ r. ⌜ Gathered (yieldedIn limit (trace (locations split encoding endian (now (section .entry))) (tableAt endian encoding «debug_addr_base» (now («debug_addr» .entry))) (encoding .«address_size») (length (now (section .entry))) start)) r (now (begins .exit)) (now (ends .exit)) ⌝ }
+    ensures { λ r. ⌜ Gathered (yieldedIn limit (trace (listed locations split encoding endian (now (section .entry))) (tableAt endian encoding «debug_addr_base» (now («debug_addr» .entry))) (encoding .«address_size») (length (now (section .entry))) start)) r (now (begins .exit)) (now (ends .exit)) ⌝ }
 {
     let mut walk = start;
     let mut n: usize = 0;
     loop {
-        match lists::loclists::next(
+        match lists::listed::next(
             section,
             debug_addr,
             debug_addr_base,
             walk,
             encoding,
             endian,
+            locations,
             split,
         ) {
             LocAnswer::Location(location, after) => {
@@ -188,31 +152,36 @@ fn covered(collected: Collected, begins: &mut [u64; LIMIT], ends: &mut [u64; LIM
     }
 }
 
-// The coverage of the range list at an offset, in two arrays of zeros.
-fn cover_ranges(
+// The coverage of the list at an offset, in two arrays of zeros.
+fn cover(
     section: &[u8],
     debug_addr: &[u8],
     debug_addr_base: DebugAddrBase,
-    offset: RangeListsOffset,
+    offset: u64,
     base_address: u64,
     encoding: Encoding,
     endian: RunTimeEndian,
+    locations: bool,
+    split: bool,
     begins: &mut [u64; LIMIT],
     ends: &mut [u64; LIMIT],
 ) -> Outcome
     requires { ⌜ Blank (now begins) (now ends) ⌝ }
-    ensures { λ r. ⌜ toldOutcome r (now (begins .exit)) (now (ends .exit)) ≡ made (coverageOf (source rangeList encoding endian (now (section .entry)) (offset .0) «base_address» (now («debug_addr» .entry)) «debug_addr_base»)) ⌝ }
+    ensures { λ r. ⌜ toldOutcome r (now (begins .exit)) (now (ends .exit)) ≡ made (coverageOf (source (holding locations split) encoding endian (now (section .entry)) offset «base_address» (now («debug_addr» .entry)) «debug_addr_base»)) ⌝ }
 {
-    match lists::rnglists::ranges(section, offset, encoding, base_address) {
+    // Both lists open alike.
+    match lists::rnglists::ranges(section, RangeListsOffset(offset), encoding, base_address) {
         Opened::Refused(e) => refused(e),
         Opened::List(start) => {
-            let collected = collect_ranges(
+            let collected = gather(
                 section,
                 debug_addr,
                 debug_addr_base,
                 start,
                 encoding,
                 endian,
+                locations,
+                split,
                 begins,
                 ends,
             );
@@ -221,38 +190,43 @@ fn cover_ranges(
     }
 }
 
-// The same of a location list, plain or split.
-fn cover_locations(
+// The coverage of the list at an offset, in arrays of its own.
+fn list_coverage(
     section: &[u8],
     debug_addr: &[u8],
     debug_addr_base: DebugAddrBase,
-    offset: LocationListsOffset,
+    offset: u64,
     base_address: u64,
     encoding: Encoding,
     endian: RunTimeEndian,
+    locations: bool,
     split: bool,
-    begins: &mut [u64; LIMIT],
-    ends: &mut [u64; LIMIT],
-) -> Outcome
-    requires { ⌜ Blank (now begins) (now ends) ⌝ }
-    ensures { λ r. ⌜ toldOutcome r (now (begins .exit)) (now (ends .exit)) ≡ made (coverageOf (source (locationList split) encoding endian (now (section .entry)) (offset .0) «base_address» (now («debug_addr» .entry)) «debug_addr_base»)) ⌝ }
+) -> Made
+    ensures { λ r. ⌜ toldMade r ≡ made (coverageOf (source (holding locations split) encoding endian (now (section .entry)) offset «base_address» (now («debug_addr» .entry)) «debug_addr_base»)) ⌝ }
 {
-    match lists::loclists::locations(section, offset, encoding, base_address) {
-        Opened::Refused(e) => refused(e),
-        Opened::List(start) => {
-            let collected = collect_locations(
-                section,
-                debug_addr,
-                debug_addr_base,
-                start,
-                encoding,
-                endian,
-                split,
-                begins,
-                ends,
-            );
-            covered(collected, begins, ends)
-        }
+    let mut begins = [0u64; LIMIT];
+    let mut ends = [0u64; LIMIT];
+    let outcome = cover(
+        section,
+        debug_addr,
+        debug_addr_base,
+        offset,
+        base_address,
+        encoding,
+        endian,
+        locations,
+        split,
+        &mut begins,
+        &mut ends,
+    );
+    let verdict = outcome.verdict;
+    Made {
+        verdict,
+        coverage: Coverage {
+            n: outcome.n,
+            begins,
+            ends,
+        },
     }
 }
 
@@ -268,28 +242,17 @@ pub fn range_coverage(
 ) -> Made
     ensures { λ r. ⌜ toldMade r ≡ made (coverageOf (source rangeList encoding endian (now (section .entry)) (offset .0) «base_address» (now («debug_addr» .entry)) «debug_addr_base»)) ⌝ }
 {
-    let mut begins = [0u64; LIMIT];
-    let mut ends = [0u64; LIMIT];
-    let outcome = cover_ranges(
+    list_coverage(
         section,
         debug_addr,
         debug_addr_base,
-        offset,
+        offset.0,
         base_address,
         encoding,
         endian,
-        &mut begins,
-        &mut ends,
-    );
-    let verdict = outcome.verdict;
-    Made {
-        verdict,
-        coverage: Coverage {
-            n: outcome.n,
-            begins,
-            ends,
-        },
-    }
+        false,
+        false,
+    )
 }
 
 // The coverage of the location list at an offset, plain or split: the refusals of opening, then the first of a walk's refusal
@@ -306,42 +269,31 @@ pub fn location_coverage(
 ) -> Made
     ensures { λ r. ⌜ toldMade r ≡ made (coverageOf (source (locationList split) encoding endian (now (section .entry)) (offset .0) «base_address» (now («debug_addr» .entry)) «debug_addr_base»)) ⌝ }
 {
-    let mut begins = [0u64; LIMIT];
-    let mut ends = [0u64; LIMIT];
-    let outcome = cover_locations(
+    list_coverage(
         section,
         debug_addr,
         debug_addr_base,
-        offset,
+        offset.0,
         base_address,
         encoding,
         endian,
+        true,
         split,
-        &mut begins,
-        &mut ends,
-    );
-    let verdict = outcome.verdict;
-    Made {
-        verdict,
-        coverage: Coverage {
-            n: outcome.n,
-            begins,
-            ends,
-        },
-    }
+    )
 }
 
-// The coverage that a canonical list tells, read back as a section of its own.
+// The coverage that a canonical list tells, read back as a section of its own. It has its own arrays, too: with one caller
+// more, the body above would be a call that copies them.
 pub fn from_canonical(bytes: &[u8]) -> Made
     ensures { λ r. ⌜ toldMade r ≡ made (coverageOf (readBack Dwarf32 (now (bytes .entry)) 0 [] (record { 0 = 0 }))) ⌝ }
 {
     let mut begins = [0u64; LIMIT];
     let mut ends = [0u64; LIMIT];
-    let outcome = cover_ranges(
+    let outcome = cover(
         bytes,
         &bytes[..0],
         DebugAddrBase(0),
-        RangeListsOffset(0),
+        0,
         0,
         Encoding {
             address_size: 8,
@@ -349,6 +301,8 @@ pub fn from_canonical(bytes: &[u8]) -> Made
             version: 5,
         },
         RunTimeEndian::Little,
+        false,
+        false,
         &mut begins,
         &mut ends,
     );

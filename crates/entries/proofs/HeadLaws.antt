@@ -1,9 +1,10 @@
--- A location entry by what stands before its expression. Assumes nothing.
+-- An entry of either list by what stands before its expression. Assumes nothing.
 use mathlib.Core.Path.{_≡_, refl, sym, ap, _∙_, fun-ext}
-use mathlib.Core.Bool.{Bool}
-use mathlib.Core.List.{List, [], _∷_}
-use Prim.Native.Nat.{ℕ, _≤_}
-use lib.ListN.{length}
+use mathlib.Core.Bool.{Bool, true, false}
+use mathlib.Core.List.{List}
+use Prim.Native.Nat.{ℕ, _+_, _-_, _≤_, _<_}
+use native.Mathlib.Omega.{arith}
+use lib.ListN.{length, take, drop}
 use Rattle.bytes.specs.Read.{Read, got, refused, andThen}
 use Rattle.bytes.specs.Error.{told, refusal}
 use Rattle.bytes.specs.Reader.{uint, address as addressAt}
@@ -17,23 +18,31 @@ use Rattle.bytes.specs.declared.error.Error.the-variants.{UnknownLocListsEntry}
 use Rattle.bytes.specs.declared.Num.{Num}
 use Rattle.bytes.specs.declared.Num.the-variants as num
 use Rattle.bytes.proofs.Took.{Took}
+use Rattle.entries.specs.declared.Expression.{Expression}
+use Rattle.entries.specs.declared.operands.Data.{Data}
+use Rattle.entries.specs.declared.operands.Data.the-variants as parsed
+use Rattle.entries.specs.declared.RawRngListEntry.{RawRngListEntry}
 use Rattle.entries.specs.declared.RawLocListEntry.{RawLocListEntry}
-use Rattle.entries.specs.declared.RawLocListEntry.the-variants as loc
-use Rattle.entries.specs.declared.loclists.Head.{Head}
-use Rattle.entries.specs.declared.loclists.Head.the-variants as head
-use Rattle.entries.specs.Forms.{expression, addrIndex, indexed, operands, Raw, stop, entry}
-use Rattle.entries.specs.Kinds.{unknown, locationKinds, kindOf, ofKind, codedLocation, locationEntry, moved}
-use Rattle.entries.specs.Told.{Step, found, stepOf}
-use Rattle.entries.specs.Heads.{locatedAs, headed, refusedHead, numberPair, startxLength}
-use Rattle.entries.proofs.KindLaws.{no-code, code-is, code-unknown}
+use Rattle.entries.specs.declared.raw.Head.{Head}
+use Rattle.entries.specs.declared.raw.Head.the-variants as head
+use Rattle.entries.specs.Forms.{expression, addrIndex, indexed, operand, operands, Raw, stop, entry}
+use Rattle.entries.specs.Kinds.{unknown, locationKinds, kindOf, ofKind, codedLocation, rangeEntry, locationEntry, moved}
+use Rattle.entries.specs.Told.{Step, found, ended, failed, stepOf, toldData}
+use Rattle.entries.specs.Listed.{noExpression, entryIn, readIn, stepIn}
+use Rattle.entries.specs.Heads.{locatedAs, headedIn, headed, formsIn, pairIn, bareIn, Within, refusedHead, numberPair, startxLength}
+use Rattle.entries.proofs.KindLaws.{no-code, code-is, code-unknown, range-bare, raw-end}
 use Rattle.entries.proofs.StepLaws.{step-found}
-use Rattle.entries.proofs.MovedLaws.{moved-alike}
-use Rattle.entries.proofs.EntryTook.{location-entry-took}
+use Rattle.entries.proofs.MovedLaws.{moved-alike, raw-from}
+use Rattle.entries.proofs.EntryTook.{range-entry-took, location-entry-took}
 
 -- a refusal that the code hands on
+pub head-passed-in : (l : Bool) (p : Encoding) (endian : RunTimeEndian) (start : ℕ) (s : List ℕ) {q : Head} {r : Num} {x : Error} → q ≡ refusedHead r → r ≡ num.Refused x
+    → headedIn l p endian start s q ≡ refusal x
+head-passed-in l p endian start s h e = rw (h, e)
+
 pub head-passed : (p : Encoding) (endian : RunTimeEndian) (start : ℕ) (s : List ℕ) {q : Head} {r : Num} {x : Error} → q ≡ refusedHead r → r ≡ num.Refused x
     → headed p endian start s q ≡ refusal x
-head-passed p endian start s h e = rw (h, e)
+head-passed p endian start s h e = head-passed-in true p endian start s h e
 
 -- an index is a number until the entry is built
 index-number : {B : Type 0} (r : Read ℕ) (f : DebugAddrIndex → ℕ → Read B) → andThen (indexed r) f ≡ andThen r (λ i c. f (addrIndex i) c)
@@ -119,32 +128,98 @@ module _ (p : Encoding) (endian : RunTimeEndian) (start : ℕ) (s : List ℕ) wh
           (λ a d. andThen (unsigned s d) (λ b f. headed p endian start s (head.Bounds 8 a b f)))
       head-8 e = code-is p endian start s _ _ h 8 q e ∙ row-8 c
 
-  -- a bare pair that is neither the end nor a base address
-  pub pair-head : (b e c : ℕ) → operands p endian start s (expression ∷ []) (loc.AddressOrOffsetPair b e) c ≡ headed p endian start s (head.Bounds 0 b e c)
-  unfolding locatedAs
-  pair-head b e c = refl
+-- a bare pair that is neither the end nor a base address
+pub pair-head : (l : Bool) (p : Encoding) (endian : RunTimeEndian) (start : ℕ) (s : List ℕ) (b e c : ℕ)
+    → operands p endian start s (formsIn l) (pairIn l b e) c ≡ headedIn l p endian start s (head.Bounds 0 b e c)
+unfolding locatedAs
+pair-head true p endian start s b e c = refl
+pair-head false p endian start s b e c = refl
+
+-- in a range list nothing depends on where the part starts
+head-anywhere : (p : Encoding) (endian : RunTimeEndian) (start other : ℕ) (s : List ℕ) (h : Head) → headedIn false p endian start s h ≡ headedIn false p endian other s h
+head-anywhere p endian start other s (head.Bounds code a b c) = refl
+head-anywhere p endian start other s (head.BaseAddress a c) = refl
+head-anywhere p endian start other s (head.BaseAddressx i c) = refl
+head-anywhere p endian start other s head.End = refl
+head-anywhere p endian start other s (head.Refused e) = refl
 
 -- what was read ends in the part
-within : {E : Type 0} (s : List ℕ) (r q : Read (Raw E)) {x : E} {n : ℕ} → Took 1 0 s s r q → found x n ≡ stepOf r → n ≤ length s
-within s r q k f = let j = rw (step-found r f) at k in j .1
+within : {E : Type 0} (s : List ℕ) (r q : Read (Raw E)) → stepOf r ≡ stepOf q → Took 1 0 s s q q → Within (length s) r
+within s (got (entry x) n) q f k = let j = rw (step-found q f) at k in j .1
+within s (got stop n) q f k = tt
+within s (refused n vs) q f k = tt
+
+-- the step of a head: the two numbers of a location are followed by an expression, those of a range are not
+module _ (p : Encoding) (endian : RunTimeEndian) (start : ℕ) (s : List ℕ) {h : Head} {code a b c : ℕ} (e : h ≡ head.Bounds code a b c) where
+  module _ {r : Data} (q : toldData r ≡ operand p endian start s expression c) where
+    pub data-refused : (l : Bool) → l ≡ true → (t : Step RawLocListEntry) {x : Error} → t ≡ stepOf (refusal x) → r ≡ parsed.Refused x
+        → stepIn l t ≡ stepOf (moved start (headedIn l p endian start s h))
+    data-refused true k t f z = rw (f, e, ← q, z)
+    data-refused false k t f z = let o : _≡_ {A = ℕ} 0 1 = cc in absurd (omega arith)
+
+    module _ {x : Expression} {d : ℕ} (z : r ≡ parsed.Got x d) where
+      pub data-within : (l : Bool) → l ≡ true → {n : ℕ} → Within n (headedIn l p endian start s h) → d ≤ n
+      data-within true k w = rw (e, ← q, z) at w
+      data-within false k w = let o : _≡_ {A = ℕ} 0 1 = cc in absurd (omega arith)
+
+      pub data-step : (l : Bool) → l ≡ true → {y : RawLocListEntry} → y ≡ locatedAs code a b x
+          → found (entryIn l y) (start + d) ≡ stepOf (moved start (headedIn l p endian start s h))
+      data-step true k f = rw (f, e, ← q, z)
+      data-step false k f = let o : _≡_ {A = ℕ} 0 1 = cc in absurd (omega arith)
+
+  pub pair-within : (l : Bool) → l ≡ false → {n : ℕ} → Within n (headedIn l p endian start s h) → c ≤ n
+  pair-within false k w = rw e at w
+  pair-within true k w = let o : _≡_ {A = ℕ} 0 1 = cc in absurd (omega arith)
+
+  pub pair-step : (l : Bool) → l ≡ false → {y : RawLocListEntry} → y ≡ locatedAs code a b noExpression
+      → found (entryIn l y) (start + c) ≡ stepOf (moved start (headedIn l p endian start s h))
+  pair-step false k f = rw (f, e)
+  pair-step true k f = let o : _≡_ {A = ℕ} 0 1 = cc in absurd (omega arith)
 
 -- the entry that was built
 pub entry-built : {E : Type 0} {x y : E} {n : ℕ} {t : Step E} → x ≡ y → found y n ≡ t → found x n ≡ t
 entry-built {E} {x} {y} {n} e f = ap (λ (z : E). found z n) e ∙ f
 
--- the entry by the head that was read
-module _ (split : Bool) (p : Encoding) (endian : RunTimeEndian) (start : ℕ) (s : List ℕ) {r : Head}
-    (h : (start : ℕ) → stepOf (headed p endian start s r) ≡ stepOf (locationEntry split p endian start s)) where
-  module _ {b : Head} (e : r ≡ b) where
-    head-is : stepOf (headed p endian start s b) ≡ stepOf (locationEntry split p endian start s)
-    head-is = rw e at (h start)
+-- an answer for a location is the code's own
+pub step-same : (t : Step RawLocListEntry) → stepIn true t ≡ t
+step-same (found e c) = refl
+step-same ended = refl
+step-same (failed n vs) = refl
 
-    pub head-moved : {y : Read (Raw RawLocListEntry)} → headed p endian start s b ≡ y
-        → stepOf (moved start y) ≡ stepOf (moved start (locationEntry split p endian start s))
-    head-moved {y} f = moved-alike start y (locationEntry split p endian start s) (ap stepOf (sym f) ∙ head-is)
+-- the entry by the head that was read: it ends in the part, and its step is the entry's
+module _ (p : Encoding) (endian : RunTimeEndian) (start : ℕ) (s : List ℕ) (h : Head) where
+  module _ (split : Bool) (f : (start : ℕ) → stepOf (headed p endian start s h) ≡ stepOf (locationEntry split p endian start s)) where
+    pub location-within : Within (length s) (headedIn true p endian start s h)
+    location-within = within s (headedIn true p endian start s h) (locationEntry split p endian start s) (f start) (location-entry-took split p endian start s s)
 
-    -- the place after the entry lies in the part
-    pub head-within : {x : RawLocListEntry} {n : ℕ} → headed p endian start s b ≡ got (entry x) n → n ≤ length s
-    head-within f =
-        within s (locationEntry split p endian start s) (locationEntry split p endian start s) (location-entry-took split p endian start s s)
-        (ap stepOf (sym f) ∙ head-is)
+    pub location-step : (t : Step RawLocListEntry) → stepIn true t ≡ stepOf (moved start (headedIn true p endian start s h))
+        → t ≡ stepOf (moved start (locationEntry split p endian start s))
+    location-step t g = sym (step-same t) ∙ g ∙ moved-alike start (headedIn true p endian start s h) (locationEntry split p endian start s) (f start)
+
+  module _ (v : p .version < 5) (f : (l : Bool) (start : ℕ) → stepOf (headedIn l p endian start s h) ≡ stepOf (bareIn l p endian start s)) where
+    range-alike : stepOf (headedIn false p endian start s h) ≡ stepOf (rangeEntry p endian s)
+    range-alike = ap stepOf (head-anywhere p endian start 0 s h) ∙ f false 0 ∙ ap stepOf (sym (range-bare p endian s v))
+
+    pub range-within : Within (length s) (headedIn false p endian start s h)
+    range-within = within s (headedIn false p endian start s h) (rangeEntry p endian s) range-alike (range-entry-took p endian s s)
+
+    pub range-step : {t : Step RawRngListEntry} → t ≡ stepOf (moved start (headedIn false p endian start s h))
+        → t ≡ stepOf (moved start (rangeEntry p endian s))
+    range-step g = g ∙ moved-alike start (headedIn false p endian start s h) (rangeEntry p endian s) range-alike
+
+-- the list's answer at a place of the section
+module _ (split : Bool) (p : Encoding) (endian : RunTimeEndian) (s : List ℕ) (at : ℕ) where
+  pub in-end : (l : Bool) → length s ≤ at → ended ≡ stepOf (readIn l split p endian s at)
+  in-end true h = ap stepOf (sym (raw-end _ s at h))
+  in-end false h = ap stepOf (sym (raw-end _ s at h))
+
+  module _ (h : at < length s) (t : Step RawLocListEntry) where
+    pub in-locations : (l : Bool) → l ≡ true → t ≡ stepOf (moved at (locationEntry split p endian at (take (length s - at) (drop at s))))
+        → stepIn l t ≡ stepOf (readIn l split p endian s at)
+    in-locations true k f = step-same t ∙ raw-from (locationEntry split p endian at) s at h f
+    in-locations false k f = let o : _≡_ {A = ℕ} 0 1 = cc in absurd (omega arith)
+
+    pub in-ranges : (l : Bool) → l ≡ false → stepIn false t ≡ stepOf (moved at (rangeEntry p endian (take (length s - at) (drop at s))))
+        → stepIn l t ≡ stepOf (readIn l split p endian s at)
+    in-ranges false k f = raw-from (rangeEntry p endian) s at h f
+    in-ranges true k f = let o : _≡_ {A = ℕ} 0 1 = cc in absurd (omega arith)

@@ -1,21 +1,25 @@
--- What stands before a location entry's expression, and what the entry is by it: for the contracts of private functions, and
--- nothing above them. The kinds themselves are in Kinds.
-use Prim.Native.Nat.{ℕ}
-use mathlib.Core.List.{List}
+-- What stands before an entry's expression, and what the entry is by it, in both lists: for the contracts of private
+-- functions, and nothing above them. The kinds themselves are in Kinds.
+use Prim.Native.Nat.{ℕ, _≤_}
+use mathlib.Core.Bool.{Bool, true, false}
+use mathlib.Core.List.{List, [], _∷_}
 use lib.Dec.{eqb}
-use Rattle.bytes.specs.Read.{Read, got, andThen, pick}
+use Rattle.bytes.specs.Read.{Read, got, refused, andThen, pick}
 use Rattle.bytes.specs.Error.{refusal}
 use Rattle.bytes.specs.Leb128.{unsigned}
 use Rattle.bytes.specs.declared.common.Encoding.{Encoding}
 use Rattle.bytes.specs.declared.endianity.RunTimeEndian.{RunTimeEndian}
 use Rattle.bytes.specs.declared.Num.{Num}
 use Rattle.bytes.specs.declared.Num.the-variants as num
-use Rattle.entries.specs.Forms.{expression, addrIndex, byVersion, operand, Raw, stop, entry}
+use Rattle.entries.specs.Forms.{Form, expression, addrIndex, byVersion, operand, Takes, Raw, stop, entry}
+use Rattle.entries.specs.Kinds.{bare}
+use Rattle.entries.specs.Listed.{bounds, noExpression, EntryIn, entryIn}
 use Rattle.entries.specs.declared.Expression.{Expression}
+use Rattle.entries.specs.declared.RawRngListEntry.the-variants as rng
 use Rattle.entries.specs.declared.RawLocListEntry.{RawLocListEntry}
 use Rattle.entries.specs.declared.RawLocListEntry.the-variants as loc
-use Rattle.entries.specs.declared.loclists.Head.{Head}
-use Rattle.entries.specs.declared.loclists.Head.the-variants as head
+use Rattle.entries.specs.declared.raw.Head.{Head}
+use Rattle.entries.specs.declared.raw.Head.the-variants as head
 
 -- the entry of a code, two numbers and an expression
 unfoldable pub locatedAs : ℕ → ℕ → ℕ → Expression → RawLocListEntry
@@ -27,14 +31,40 @@ locatedAs code a b x =
     (pick (eqb code 5) (loc.DefaultLocation x)
     (pick (eqb code 7) (loc.StartEnd a b x) (loc.StartLength a b x))))))
 
--- what is read at the front of a part, by the head that was read there; where the end stands is not told
-abbrev pub headed : Encoding → RunTimeEndian → ℕ → List ℕ → Head → Read (Raw RawLocListEntry)
-headed p endian start s (head.Bounds code a b c) =
+-- what two numbers after a code come to: in a location list an expression follows them
+abbrev pub followed : (l : Bool) → Encoding → RunTimeEndian → ℕ → List ℕ → ℕ → ℕ → ℕ → ℕ → Read (Raw (EntryIn l))
+followed true p endian start s code a b c =
     andThen (operand p endian start s expression c) (λ x d. got (entry (locatedAs code a b x)) d)
-headed p endian start s (head.BaseAddress a c) = got (entry (loc.BaseAddress a)) c
-headed p endian start s (head.BaseAddressx i c) = got (entry (loc.BaseAddressx (addrIndex i))) c
-headed p endian start s head.End = got stop 0
-headed p endian start s (head.Refused e) = refusal e
+followed false p endian start s code a b c = got (entry (bounds (locatedAs code a b noExpression))) c
+
+-- what is read at the front of a part, by the head that was read there; where the end stands is not told
+abbrev pub headedIn : (l : Bool) → Encoding → RunTimeEndian → ℕ → List ℕ → Head → Read (Raw (EntryIn l))
+headedIn l p endian start s (head.Bounds code a b c) = followed l p endian start s code a b c
+headedIn l p endian start s (head.BaseAddress a c) = got (entry (entryIn l (loc.BaseAddress a))) c
+headedIn l p endian start s (head.BaseAddressx i c) = got (entry (entryIn l (loc.BaseAddressx (addrIndex i)))) c
+headedIn l p endian start s head.End = got stop 0
+headedIn l p endian start s (head.Refused e) = refusal e
+
+abbrev pub headed : Encoding → RunTimeEndian → ℕ → List ℕ → Head → Read (Raw RawLocListEntry)
+headed p endian start s r = headedIn true p endian start s r
+
+-- a bare pair, with what follows it
+abbrev pub formsIn : Bool → List Form
+formsIn true = expression ∷ []
+formsIn false = []
+
+abbrev pub pairIn : (l : Bool) → ℕ → ℕ → Takes (formsIn l) (EntryIn l)
+pairIn true b e = loc.AddressOrOffsetPair b e
+pairIn false b e = rng.AddressOrOffsetPair b e
+
+abbrev pub bareIn : (l : Bool) → Encoding → RunTimeEndian → ℕ → List ℕ → Read (Raw (EntryIn l))
+bareIn l p endian start s = bare p endian start s (λ a. entryIn l (loc.BaseAddress a)) (formsIn l) (pairIn l)
+
+-- an entry that was read ends in a part of some length
+abbrev pub Within : {E : Type 0} → ℕ → Read (Raw E) → Type 0
+Within len (got (entry e) c) = c ≤ len
+Within len (got stop c) = Unit
+Within len (refused n vs) = Unit
 
 -- two LEB128 numbers after a code
 abbrev pub numberPair : Encoding → RunTimeEndian → ℕ → List ℕ → ℕ → ℕ → Read (Raw RawLocListEntry)

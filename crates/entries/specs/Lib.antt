@@ -1,4 +1,5 @@
 pub mod Forms
 pub mod Kinds
 pub mod Told
+pub mod Listed
 pub mod Heads

@@ -1,6 +1,7 @@
 // Raw entries of range lists and location lists: DWARF 5's kinds, split lists up to version 4, bare pairs.
 pub mod loclists;
 pub mod operands;
+pub mod raw;
 pub mod rnglists;
 
 use bytes::common::DebugAddrIndex;

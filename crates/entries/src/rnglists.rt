@@ -1,34 +1,44 @@
 // Range list entries (DWARF 5, 2.17.3 and 7.25; DWARF 4, 2.17.3).
-use super::RawRngListEntry;
+use super::Expression;
+use super::LocStep;
+use super::RawLocListEntry;
 use super::RngStep;
 use bytes::Num;
 use bytes::common::DebugAddrIndex;
 use bytes::common::Encoding;
 use bytes::endianity::RunTimeEndian;
 use bytes::error::Error;
+ghost use mathlib.Core.Bool.{false};
 ghost use mathlib.Core.Path.{_≡_};
 ghost use Prim.Native.Nat.{_+_, _<_, _^_};
 ghost use lib.ListN.{length};
 ghost use Rattle.bytes.specs.Read.{got};
 ghost use Rattle.bytes.specs.Error.{told};
-ghost use Rattle.entries.specs.Told.{stepOf, toldRange, handed};
+ghost use Rattle.entries.specs.Told.{stepOf, toldRange, toldLocation, handed};
+ghost use Rattle.entries.specs.Listed.{stepIn};
 ghost use Rattle.entries.specs.Forms.{stop};
-ghost use Rattle.entries.specs.Kinds.{codedRange, bareRange, rangeEntry, moved, rawRange};
+ghost use Rattle.entries.specs.Kinds.{codedRange, moved, rawRange};
 
 // A refusal of an operand passed on.
-fn passed(r: Num) -> RngStep
-    ensures { λ q. ⌜ toldRange q ≡ stepOf (handed (got stop 0) (told r)) ⌝ }
+fn passed(r: Num) -> LocStep
+    ensures { λ q. ⌜ stepIn false (toldLocation q) ≡ stepOf (handed (got stop 0) (told r)) ⌝ }
 {
     match r {
-        Num::Got(_, _) => RngStep::End,
-        Num::Refused(e) => RngStep::Refused(e),
+        Num::Got(_, _) => LocStep::End,
+        Num::Refused(e) => LocStep::Refused(e),
     }
 }
 
-// An entry by its kind. Here and below, start is the part's place in its section, and places are answered as the section's.
-fn coded_range(part: &[u8], start: usize, encoding: Encoding, endian: RunTimeEndian) -> RngStep
+// An entry by its kind, as a location without an expression. Start is the part's place in its section, and places are
+// answered as the section's.
+pub(crate) fn coded_range(
+    part: &[u8],
+    start: usize,
+    encoding: Encoding,
+    endian: RunTimeEndian,
+) -> LocStep
     requires { ⌜ start + length (now part) < 2 ^ 64 ⌝ }
-    ensures { λ r. ⌜ toldRange r ≡ stepOf (moved start (codedRange encoding endian (now (part .entry)))) ⌝ }
+    ensures { λ r. ⌜ stepIn false (toldLocation r) ≡ stepOf (moved start (codedRange encoding endian (now (part .entry)))) ⌝ }
 {
     let size = encoding.address_size;
     let r = bytes::reader::read_u8(part, 0);
@@ -36,14 +46,14 @@ fn coded_range(part: &[u8], start: usize, encoding: Encoding, endian: RunTimeEnd
         return passed(r);
     };
     match code {
-        0 => RngStep::End,
+        0 => LocStep::End,
         1 => {
             let r1 = bytes::leb128::unsigned(part, c);
             let Num::Got(addr, c1) = r1 else {
                 return passed(r1);
             };
-            RngStep::Entry(
-                RawRngListEntry::BaseAddressx(DebugAddrIndex(addr)),
+            LocStep::Entry(
+                RawLocListEntry::BaseAddressx(DebugAddrIndex(addr)),
                 start + c1,
             )
         }
@@ -56,8 +66,12 @@ fn coded_range(part: &[u8], start: usize, encoding: Encoding, endian: RunTimeEnd
             let Num::Got(end, c2) = r2 else {
                 return passed(r2);
             };
-            RngStep::Entry(
-                RawRngListEntry::StartxEndx(DebugAddrIndex(begin), DebugAddrIndex(end)),
+            LocStep::Entry(
+                RawLocListEntry::StartxEndx(
+                    DebugAddrIndex(begin),
+                    DebugAddrIndex(end),
+                    Expression { offset: 0, len: 0 },
+                ),
                 start + c2,
             )
         }
@@ -70,8 +84,12 @@ fn coded_range(part: &[u8], start: usize, encoding: Encoding, endian: RunTimeEnd
             let Num::Got(len, c2) = r2 else {
                 return passed(r2);
             };
-            RngStep::Entry(
-                RawRngListEntry::StartxLength(DebugAddrIndex(begin), len),
+            LocStep::Entry(
+                RawLocListEntry::StartxLength(
+                    DebugAddrIndex(begin),
+                    len,
+                    Expression { offset: 0, len: 0 },
+                ),
                 start + c2,
             )
         }
@@ -84,14 +102,17 @@ fn coded_range(part: &[u8], start: usize, encoding: Encoding, endian: RunTimeEnd
             let Num::Got(end, c2) = r2 else {
                 return passed(r2);
             };
-            RngStep::Entry(RawRngListEntry::OffsetPair(begin, end), start + c2)
+            LocStep::Entry(
+                RawLocListEntry::OffsetPair(begin, end, Expression { offset: 0, len: 0 }),
+                start + c2,
+            )
         }
         5 => {
             let r1 = bytes::reader::read_address(part, c, size, endian);
             let Num::Got(addr, c1) = r1 else {
                 return passed(r1);
             };
-            RngStep::Entry(RawRngListEntry::BaseAddress(addr), start + c1)
+            LocStep::Entry(RawLocListEntry::BaseAddress(addr), start + c1)
         }
         6 => {
             let r1 = bytes::reader::read_address(part, c, size, endian);
@@ -102,7 +123,10 @@ fn coded_range(part: &[u8], start: usize, encoding: Encoding, endian: RunTimeEnd
             let Num::Got(end, c2) = r2 else {
                 return passed(r2);
             };
-            RngStep::Entry(RawRngListEntry::StartEnd(begin, end), start + c2)
+            LocStep::Entry(
+                RawLocListEntry::StartEnd(begin, end, Expression { offset: 0, len: 0 }),
+                start + c2,
+            )
         }
         7 => {
             let r1 = bytes::reader::read_address(part, c, size, endian);
@@ -113,44 +137,13 @@ fn coded_range(part: &[u8], start: usize, encoding: Encoding, endian: RunTimeEnd
             let Num::Got(len, c2) = r2 else {
                 return passed(r2);
             };
-            RngStep::Entry(RawRngListEntry::StartLength(begin, len), start + c2)
+            LocStep::Entry(
+                RawLocListEntry::StartLength(begin, len, Expression { offset: 0, len: 0 }),
+                start + c2,
+            )
         }
-        _ => RngStep::Refused(Error::UnknownRangeListsEntry(code)),
+        _ => LocStep::Refused(Error::UnknownRangeListsEntry(code)),
     }
-}
-
-// A bare pair: both zero end the list, a begin with all bits set makes the end the base address.
-fn bare_range(part: &[u8], start: usize, encoding: Encoding, endian: RunTimeEndian) -> RngStep
-    requires { ⌜ start + length (now part) < 2 ^ 64 ⌝ }
-    ensures { λ r. ⌜ toldRange r ≡ stepOf (moved start (bareRange encoding endian (now (part .entry)))) ⌝ }
-{
-    let size = encoding.address_size;
-    let r = bytes::reader::read_address(part, 0, size, endian);
-    let Num::Got(begin, c) = r else {
-        return passed(r);
-    };
-    let r1 = bytes::reader::read_address(part, c, size, endian);
-    let Num::Got(end, c1) = r1 else {
-        return passed(r1);
-    };
-    if super::operands::is_end(begin, end) {
-        return RngStep::End;
-    }
-    if begin == bytes::address::ones_sized(size) {
-        return RngStep::Entry(RawRngListEntry::BaseAddress(end), start + c1);
-    }
-    RngStep::Entry(RawRngListEntry::AddressOrOffsetPair(begin, end), start + c1)
-}
-
-// The entry at the front of a part that starts at a place of its section: kinds from version 5 on, bare pairs before.
-fn range_entry(part: &[u8], start: usize, encoding: Encoding, endian: RunTimeEndian) -> RngStep
-    requires { ⌜ start + length (now part) < 2 ^ 64 ⌝ }
-    ensures { λ r. ⌜ toldRange r ≡ stepOf (moved start (rangeEntry encoding endian (now (part .entry)))) ⌝ }
-{
-    if 5 <= encoding.version {
-        return coded_range(part, start, encoding, endian);
-    }
-    bare_range(part, start, encoding, endian)
 }
 
 // The raw entry at a place of a range list; at or past the section's end, the end. Refused with 3 and the code, then operand
@@ -163,8 +156,9 @@ pub fn raw_range_entry(
 ) -> RngStep
     ensures { λ r. ⌜ toldRange r ≡ stepOf (rawRange encoding endian (now (section .entry)) at) ⌝ }
 {
-    if section.len() <= at {
-        return RngStep::End;
+    match super::raw::raw_entry(section, at, encoding, endian, false, false) {
+        LocStep::Entry(e, c) => RngStep::Entry(super::raw::bounds_of(e), c),
+        LocStep::End => RngStep::End,
+        LocStep::Refused(e) => RngStep::Refused(e),
     }
-    range_entry(&section[at..], at, encoding, endian)
 }

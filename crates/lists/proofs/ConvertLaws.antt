@@ -18,11 +18,12 @@ use Rattle.tables.specs.Next.{yields, ends, stops, stopped}
 use Rattle.tables.specs.declared.addr.AddressAnswer.{AddressAnswer}
 use Rattle.tables.specs.declared.addr.AddressAnswer.the-variants as address
 use Rattle.entries.specs.Forms.{Raw}
+use Rattle.entries.specs.declared.RawRngListEntry.{RawRngListEntry}
 use Rattle.entries.specs.Told.{found, ended, failed, stepOf}
 use Rattle.entries.proofs.StepLaws.{step-found, step-ended, step-failed}
 use Rattle.lists.specs.Open.{walkAt, opened, byVersion}
 use Rattle.lists.specs.Convert.{Turn, range, skip, told, bounded, offsets, looked, passedOf, convert}
-use Rattle.lists.specs.Walk.{Listing, onRaw, nextRaw, refuses, outcome, convertRaw}
+use Rattle.lists.specs.Walk.{Listing, onRaw, nextRaw, refuses, outcome, converted}
 use Rattle.lists.specs.declared.Walk.{Walk}
 use Rattle.lists.specs.declared.convert.Converted.{Converted}
 
@@ -100,11 +101,9 @@ module _ (l : Listing) (size len : ℕ) (w : Walk) where
       raw-failed q = raw-is k _ (step-failed (l .read (w .at)) q)
 
 -- a conversion under a walk, by the answer of the conversion
-module _ (l : Listing) (table : DebugAddrIndex → Result ℕ) (size : ℕ) (w : Walk) (e : l .Entry) where
-  pub converted-other : isSize size ≡ false → convertRaw l table size w e ≡ refuses (number (UnsupportedAddressSize size)) (values (UnsupportedAddressSize size)) w
-  unfolding convertRaw
+module _ {D : Type 0} (table : DebugAddrIndex → Result ℕ) (size : ℕ) (w : Walk) (d : D) (b : RawRngListEntry) where
+  pub converted-other : isSize size ≡ false → converted table size w d b ≡ refuses (number (UnsupportedAddressSize size)) (values (UnsupportedAddressSize size)) w
   converted-other h = simp h
 
-  pub converted-is : isSize size ≡ true → {t : Turn} → t ≡ convert table size (w .«base_address») (l .boundsOf e) → convertRaw l table size w e ≡ outcome w (l .carried e) t
-  unfolding convertRaw
+  pub converted-is : isSize size ≡ true → {t : Turn} → t ≡ convert table size (w .«base_address») b → converted table size w d b ≡ outcome w d t
   converted-is h q = simp (h, ← q)

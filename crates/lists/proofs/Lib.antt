@@ -1,6 +1,7 @@
 pub mod OpenLaws
 pub mod WalkLaws
 pub mod Past
+pub mod ListedLaws
 pub mod ConvertLaws
 pub mod Theorems
 pub mod CallLaws

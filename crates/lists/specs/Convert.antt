@@ -1,5 +1,5 @@
 -- What a raw entry comes to (DWARF 5, 2.17.3 and 2.6.2): one definition for both lists. The skips are gimli's.
-use Prim.Native.Nat.{ℕ, _-_, _^_}
+use Prim.Native.Nat.{ℕ}
 use mathlib.Core.List.{List}
 use lib.Dec.{leb}
 use Rattle.bytes.specs.Read.{Result, gives, refuses, pick}
@@ -12,6 +12,7 @@ use Rattle.bytes.specs.declared.endianity.RunTimeEndian.{RunTimeEndian}
 use Rattle.tables.specs.Addr.{addressAt}
 use Rattle.tables.specs.declared.addr.AddressAnswer.{AddressAnswer}
 use Rattle.tables.specs.declared.addr.AddressAnswer.the-variants as address
+pub use Rattle.entries.specs.Listed.{bounds, noExpression}
 use Rattle.entries.specs.declared.Expression.{Expression}
 use Rattle.entries.specs.declared.RawRngListEntry.{RawRngListEntry}
 use Rattle.entries.specs.declared.RawRngListEntry.the-variants.{
@@ -76,22 +77,7 @@ convert at size base (OffsetPair b e) = offsets size base b e
 convert at size base (StartEnd b e) = bounded size b e
 convert at size base (StartLength b n) = bounded size b (addSized b n size)
 
--- a location's bounds as a range entry; that a default location spans 0 to 2^64 - 1 is gimli's
-abbrev pub bounds : RawLocListEntry → RawRngListEntry
-bounds (loc.AddressOrOffsetPair b e x) = AddressOrOffsetPair b e
-bounds (loc.BaseAddress a) = BaseAddress a
-bounds (loc.BaseAddressx i) = BaseAddressx i
-bounds (loc.StartxEndx i j x) = StartxEndx i j
-bounds (loc.StartxLength i n x) = StartxLength i n
-bounds (loc.OffsetPair b e x) = OffsetPair b e
-bounds (loc.DefaultLocation x) = StartEnd 0 (2 ^ 64 - 1)
-bounds (loc.StartEnd b e x) = StartEnd b e
-bounds (loc.StartLength b n x) = StartLength b n
-
 -- a location's expression; where there is none, the empty part at the section's start
-abbrev pub noExpression : Expression
-noExpression = record { offset = 0; len = 0 }
-
 abbrev pub expressionOf : RawLocListEntry → Expression
 expressionOf (loc.AddressOrOffsetPair b e x) = x
 expressionOf (loc.BaseAddress a) = noExpression

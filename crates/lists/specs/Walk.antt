@@ -1,7 +1,7 @@
 -- What a list does, from its bytes alone, and what each call of a walk hands out: one definition for both lists.
 use Prim.Native.Nat.{ℕ, zero, suc}
 use mathlib.Core.List.{List}
-use mathlib.Core.Bool.{Bool, false}
+use mathlib.Core.Bool.{Bool, true, false}
 use lib.ListN.{length}
 use lib.Dec.{leb}
 use Rattle.bytes.specs.Read.{Read, got, refused, Result, pick}
@@ -14,7 +14,7 @@ use Rattle.bytes.specs.declared.endianity.RunTimeEndian.{RunTimeEndian}
 use Rattle.bytes.specs.declared.error.Error.the-variants.{UnsupportedAddressSize}
 use Rattle.tables.specs.Next.{Next, yields, ends, stops, stopped}
 use Rattle.entries.specs.Forms.{Raw, stop, entry}
-use Rattle.entries.specs.Kinds.{rawRange, rawLocation}
+use Rattle.entries.specs.Listed.{EntryIn, entryIn, readIn}
 use Rattle.entries.specs.declared.Expression.{Expression}
 use Rattle.entries.specs.declared.RawRngListEntry.{RawRngListEntry}
 use Rattle.entries.specs.declared.RawLocListEntry.{RawLocListEntry}
@@ -42,13 +42,28 @@ pub record Listing : Type 1 where
   pub boundsOf : Entry → RawRngListEntry
   pub carried : Entry → Carried
 
+-- both lists as one, by whether the list holds locations, and then whether it is split
+abbrev pub CarriedIn : Bool → Type 0
+CarriedIn true = Expression
+CarriedIn false = Unit
+
+abbrev pub boundsIn : (l : Bool) → EntryIn l → RawRngListEntry
+boundsIn true e = bounds e
+boundsIn false e = e
+
+abbrev pub carriedIn : (l : Bool) → EntryIn l → CarriedIn l
+carriedIn true e = expressionOf e
+carriedIn false e = tt
+
+abbrev pub listed : Bool → Bool → Encoding → RunTimeEndian → List ℕ → Listing
+listed l split p endian s =
+    record { Entry = EntryIn l; Carried = CarriedIn l; read = readIn l split p endian s; boundsOf = boundsIn l; carried = carriedIn l }
+
 abbrev pub ranges : Encoding → RunTimeEndian → List ℕ → Listing
-ranges p endian s =
-    record { Entry = RawRngListEntry; Carried = Unit; read = rawRange p endian s; boundsOf = λ e. e; carried = λ e. tt }
+ranges p endian s = listed false false p endian s
 
 abbrev pub locations : Bool → Encoding → RunTimeEndian → List ℕ → Listing
-locations split p endian s =
-    record { Entry = RawLocListEntry; Carried = Expression; read = rawLocation split p endian s; boundsOf = bounds; carried = expressionOf }
+locations split p endian s = listed true split p endian s
 
 -- a range with what it carries
 pub data Item (D : Type 0) : Type 0 where
@@ -117,27 +132,38 @@ outcome w d (rebase b) = nothing (walkAt (w .at) b)
 outcome w d skip = nothing w
 outcome w d (missing n vs) = refuses n vs w
 
-unfoldable pub convertRaw : (l : Listing) → (DebugAddrIndex → Result ℕ) → ℕ → Walk → l .Entry → Outcome (l .Carried)
-convertRaw l table size w e =
-    pick (isSize size) (outcome w (l .carried e) (convert table size (w .«base_address») (l .boundsOf e)))
+-- bounds, with what they carry
+abbrev pub converted : {D : Type 0} → (DebugAddrIndex → Result ℕ) → ℕ → Walk → D → RawRngListEntry → Outcome D
+converted table size w d b =
+    pick (isSize size) (outcome w d (convert table size (w .«base_address») b))
     (refuses (number (UnsupportedAddressSize size)) (values (UnsupportedAddressSize size)) w)
 
--- the two lists' calls, from the section, the address table, its base and the walk
+unfoldable pub convertRaw : (l : Listing) → (DebugAddrIndex → Result ℕ) → ℕ → Walk → l .Entry → Outcome (l .Carried)
+convertRaw l table size w e = converted table size w (l .carried e) (l .boundsOf e)
+
+-- both lists' calls, from the section, the address table, its base and the walk
+abbrev pub nextOf : (l : Bool) → Bool → Encoding → RunTimeEndian → List ℕ → List ℕ → DebugAddrBase → Walk → Next (Item (CarriedIn l)) Walk
+nextOf l split p endian s table base w =
+    next (listed l split p endian s) (tableAt endian p base table) (p .«address_size») (length s) w
+
+abbrev pub nextRawOf : (l : Bool) → Bool → Encoding → RunTimeEndian → List ℕ → Walk → Next (EntryIn l) Walk
+nextRawOf l split p endian s w = nextRaw (listed l split p endian s) (p .«address_size») (length s) w
+
+-- each list's calls
 abbrev pub nextRange : Encoding → RunTimeEndian → List ℕ → List ℕ → DebugAddrBase → Walk → Next (Item Unit) Walk
-nextRange p endian s table base w = next (ranges p endian s) (tableAt endian p base table) (p .«address_size») (length s) w
+nextRange p endian s table base w = nextOf false false p endian s table base w
 
 abbrev pub nextRawRange : Encoding → RunTimeEndian → List ℕ → Walk → Next RawRngListEntry Walk
-nextRawRange p endian s w = nextRaw (ranges p endian s) (p .«address_size») (length s) w
+nextRawRange p endian s w = nextRawOf false false p endian s w
 
 abbrev pub convertedRange : Encoding → RunTimeEndian → List ℕ → DebugAddrBase → Walk → RawRngListEntry → Outcome Unit
 convertedRange p endian table base w e = convertRaw (ranges p endian table) (tableAt endian p base table) (p .«address_size») w e
 
 abbrev pub nextLocation : Bool → Encoding → RunTimeEndian → List ℕ → List ℕ → DebugAddrBase → Walk → Next (Item Expression) Walk
-nextLocation split p endian s table base w =
-    next (locations split p endian s) (tableAt endian p base table) (p .«address_size») (length s) w
+nextLocation split p endian s table base w = nextOf true split p endian s table base w
 
 abbrev pub nextRawLocation : Bool → Encoding → RunTimeEndian → List ℕ → Walk → Next RawLocListEntry Walk
-nextRawLocation split p endian s w = nextRaw (locations split p endian s) (p .«address_size») (length s) w
+nextRawLocation split p endian s w = nextRawOf true split p endian s w
 
 abbrev pub convertedLocation : Encoding → RunTimeEndian → List ℕ → DebugAddrBase → Walk → RawLocListEntry → Outcome Expression
 convertedLocation p endian table base w e = convertRaw (locations false p endian table) (tableAt endian p base table) (p .«address_size») w e
@@ -172,3 +198,26 @@ abbrev pub toldNextLocation : LocAnswer → Next (Item Expression) Walk
 toldNextLocation (loc.Location x w) = yields (item (x .range .begin) (x .range .end) (x .«data»)) w
 toldNextLocation (loc.End w) = ends w
 toldNextLocation (loc.Refused e w) = stopped e w
+
+-- an answer of the code for both lists, told as its list's
+abbrev pub dataIn : (l : Bool) → Expression → CarriedIn l
+dataIn true x = x
+dataIn false x = tt
+
+abbrev pub itemIn : (l : Bool) → Item Expression → Item (CarriedIn l)
+itemIn l (item b e x) = item b e (dataIn l x)
+
+abbrev pub nextIn : (l : Bool) → Next (Item Expression) Walk → Next (Item (CarriedIn l)) Walk
+nextIn l (yields i w) = yields (itemIn l i) w
+nextIn l (ends w) = ends w
+nextIn l (stops n vs w) = stops n vs w
+
+abbrev pub nextRawIn : (l : Bool) → Next RawLocListEntry Walk → Next (EntryIn l) Walk
+nextRawIn l (yields e w) = yields (entryIn l e) w
+nextRawIn l (ends w) = ends w
+nextRawIn l (stops n vs w) = stops n vs w
+
+abbrev pub outcomeIn : (l : Bool) → Outcome Expression → Outcome (CarriedIn l)
+outcomeIn l (gives i w) = gives (itemIn l i) w
+outcomeIn l (nothing w) = nothing w
+outcomeIn l (refuses n vs w) = refuses n vs w

@@ -9,7 +9,7 @@ use entries::RawLocListEntry;
 use entries::RawRngListEntry;
 use tables::addr::AddressAnswer;
 ghost use mathlib.Core.Path.{_≡_};
-ghost use Rattle.lists.specs.Convert.{told, bounded, offsets, convert, bounds, expressionOf, passedOf, tableAt};
+ghost use Rattle.lists.specs.Convert.{told, bounded, offsets, convert, expressionOf, passedOf, tableAt};
 
 // A range, another base address, nothing, or a refused lookup.
 pub enum Converted {
@@ -99,23 +99,6 @@ pub fn convert_entry(
         RawRngListEntry::StartLength(b, n) => {
             checked(b, bytes::address::wrapping_add_sized(b, n, size), size)
         }
-    }
-}
-
-// The bounds of a location as a range entry. A default location spans all 64-bit addresses.
-pub fn bounds_of(raw: RawLocListEntry) -> RawRngListEntry
-    ensures { λ r. ⌜ r ≡ bounds raw ⌝ }
-{
-    match raw {
-        RawLocListEntry::AddressOrOffsetPair(b, e, _) => RawRngListEntry::AddressOrOffsetPair(b, e),
-        RawLocListEntry::BaseAddress(a) => RawRngListEntry::BaseAddress(a),
-        RawLocListEntry::BaseAddressx(i) => RawRngListEntry::BaseAddressx(i),
-        RawLocListEntry::StartxEndx(i, j, _) => RawRngListEntry::StartxEndx(i, j),
-        RawLocListEntry::StartxLength(i, n, _) => RawRngListEntry::StartxLength(i, n),
-        RawLocListEntry::OffsetPair(b, e, _) => RawRngListEntry::OffsetPair(b, e),
-        RawLocListEntry::DefaultLocation(_) => RawRngListEntry::StartEnd(0, u64::MAX),
-        RawLocListEntry::StartEnd(b, e, _) => RawRngListEntry::StartEnd(b, e),
-        RawLocListEntry::StartLength(b, n, _) => RawRngListEntry::StartLength(b, n),
     }
 }
 

@@ -1,5 +1,6 @@
 // Walking range lists and location lists: raw entries, conversion, the next range or location, lookup.
 pub mod convert;
+pub mod listed;
 pub mod loclists;
 pub mod open;
 pub mod rnglists;

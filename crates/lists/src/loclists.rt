@@ -2,14 +2,12 @@
 use super::LocationListEntry;
 use super::Opened;
 use super::Walk;
-use super::convert::Converted;
 use bytes::common::DebugAddrBase;
 use bytes::common::Encoding;
 use bytes::common::LocationListsOffset;
 use bytes::endianity::RunTimeEndian;
 use bytes::error::Error;
 use entries::Expression;
-use entries::LocStep;
 use entries::RawLocListEntry;
 ghost use mathlib.Core.Path.{_≡_};
 ghost use Rattle.lists.specs.Open.{toldOpened, opened, byVersion};
@@ -62,41 +60,7 @@ pub fn next_raw(
 ) -> RawLocAnswer
     ensures { λ r. ⌜ toldRawLocation r ≡ nextRawLocation split encoding endian (now (section .entry)) walk ⌝ }
 {
-    let at = walk.at;
-    let base_address = walk.base_address;
-    let size = encoding.address_size as u64;
-    if bytes::reader::is_address_size(size) {
-        if section.len() <= at {
-            return RawLocAnswer::End(walk);
-        }
-        return match entries::loclists::raw_location_entry(section, at, encoding, endian, split) {
-            LocStep::Entry(raw, c) => RawLocAnswer::Entry(
-                raw,
-                Walk {
-                    at: c,
-                    base_address,
-                },
-            ),
-            LocStep::End => RawLocAnswer::End(Walk {
-                at: section.len(),
-                base_address,
-            }),
-            LocStep::Refused(e) => RawLocAnswer::Refused(
-                e,
-                Walk {
-                    at: section.len(),
-                    base_address,
-                },
-            ),
-        };
-    }
-    RawLocAnswer::Refused(
-        Error::UnsupportedAddressSize(size),
-        Walk {
-            at: section.len(),
-            base_address,
-        },
-    )
+    super::listed::next_raw(section, walk, encoding, endian, true, split)
 }
 
 pub enum LocConverted {
@@ -117,29 +81,17 @@ pub fn convert_raw(
 ) -> LocConverted
     ensures { λ r. ⌜ toldConvertedLocation r ≡ convertedLocation encoding endian (now («debug_addr» .entry)) «debug_addr_base» walk raw ⌝ }
 {
-    let at = walk.at;
-    let size = encoding.address_size as u64;
-    if bytes::reader::is_address_size(size) {
-        let bounds = super::convert::bounds_of(raw);
-        let data = super::convert::expression_of(raw);
-        return match super::convert::convert_entry(
-            bounds,
-            debug_addr,
-            debug_addr_base,
-            walk.base_address,
-            encoding,
-            endian,
-        ) {
-            Converted::Range(range) => LocConverted::Location(
-                LocationListEntry { range, data },
-                walk,
-            ),
-            Converted::Base(base_address) => LocConverted::Nothing(Walk { at, base_address }),
-            Converted::Skip => LocConverted::Nothing(walk),
-            Converted::Refused(e) => LocConverted::Refused(e, walk),
-        };
-    }
-    LocConverted::Refused(Error::UnsupportedAddressSize(size), walk)
+    let bounds = entries::raw::bounds_of(raw);
+    let data = super::convert::expression_of(raw);
+    super::listed::convert_raw(
+        bounds,
+        data,
+        debug_addr,
+        debug_addr_base,
+        walk,
+        encoding,
+        endian,
+    )
 }
 
 pub enum LocAnswer {
@@ -161,67 +113,16 @@ pub fn next(
 ) -> LocAnswer
     ensures { λ r. ⌜ toldNextLocation r ≡ nextLocation split encoding endian (now (section .entry)) (now («debug_addr» .entry)) «debug_addr_base» walk ⌝ }
 {
-    let mut at = walk.at;
-    let mut base_address = walk.base_address;
-    let size = encoding.address_size as u64;
-    if bytes::reader::is_address_size(size) {
-        while at < section.len() {
-            match entries::loclists::raw_location_entry(section, at, encoding, endian, split) {
-                LocStep::Refused(e) => {
-                    return LocAnswer::Refused(
-                        e,
-                        Walk {
-                            at: section.len(),
-                            base_address,
-                        },
-                    );
-                }
-                LocStep::End => {
-                    return LocAnswer::End(Walk {
-                        at: section.len(),
-                        base_address,
-                    });
-                }
-                LocStep::Entry(raw, c) => {
-                    let after = Walk {
-                        at: c,
-                        base_address,
-                    };
-                    let bounds = super::convert::bounds_of(raw);
-                    let data = super::convert::expression_of(raw);
-                    match super::convert::convert_entry(
-                        bounds,
-                        debug_addr,
-                        debug_addr_base,
-                        base_address,
-                        encoding,
-                        endian,
-                    ) {
-                        Converted::Range(range) => {
-                            return LocAnswer::Location(LocationListEntry { range, data }, after);
-                        }
-                        Converted::Refused(e) => {
-                            return LocAnswer::Refused(e, after);
-                        }
-                        Converted::Base(b) => {
-                            base_address = b;
-                        }
-                        Converted::Skip => {}
-                    }
-                    at = c;
-                }
-            }
-        }
-        LocAnswer::End(Walk { at, base_address })
-    } else {
-        LocAnswer::Refused(
-            Error::UnsupportedAddressSize(size),
-            Walk {
-                at: section.len(),
-                base_address,
-            },
-        )
-    }
+    super::listed::next(
+        section,
+        debug_addr,
+        debug_addr_base,
+        walk,
+        encoding,
+        endian,
+        true,
+        split,
+    )
 }
 
 // The bytes of an expression as a part of the section; the empty part where it does not lie in the section.

@@ -2,14 +2,16 @@
 use super::Opened;
 use super::Range;
 use super::Walk;
-use super::convert::Converted;
+use super::loclists::LocAnswer;
+use super::loclists::LocConverted;
+use super::loclists::RawLocAnswer;
 use bytes::common::DebugAddrBase;
 use bytes::common::Encoding;
 use bytes::common::RangeListsOffset;
 use bytes::endianity::RunTimeEndian;
 use bytes::error::Error;
+use entries::Expression;
 use entries::RawRngListEntry;
-use entries::RngStep;
 ghost use mathlib.Core.Path.{_≡_};
 ghost use Rattle.lists.specs.Open.{toldOpened, opened, byVersion};
 ghost use Rattle.lists.specs.Walk.{toldRawRange, nextRawRange, toldConvertedRange, convertedRange, toldNextRange, nextRange};
@@ -59,41 +61,11 @@ pub fn next_raw(
 ) -> RawRngAnswer
     ensures { λ r. ⌜ toldRawRange r ≡ nextRawRange encoding endian (now (section .entry)) walk ⌝ }
 {
-    let at = walk.at;
-    let base_address = walk.base_address;
-    let size = encoding.address_size as u64;
-    if bytes::reader::is_address_size(size) {
-        if section.len() <= at {
-            return RawRngAnswer::End(walk);
-        }
-        return match entries::rnglists::raw_range_entry(section, at, encoding, endian) {
-            RngStep::Entry(raw, c) => RawRngAnswer::Entry(
-                raw,
-                Walk {
-                    at: c,
-                    base_address,
-                },
-            ),
-            RngStep::End => RawRngAnswer::End(Walk {
-                at: section.len(),
-                base_address,
-            }),
-            RngStep::Refused(e) => RawRngAnswer::Refused(
-                e,
-                Walk {
-                    at: section.len(),
-                    base_address,
-                },
-            ),
-        };
+    match super::listed::next_raw(section, walk, encoding, endian, false, false) {
+        RawLocAnswer::Entry(raw, after) => RawRngAnswer::Entry(entries::raw::bounds_of(raw), after),
+        RawLocAnswer::End(after) => RawRngAnswer::End(after),
+        RawLocAnswer::Refused(e, after) => RawRngAnswer::Refused(e, after),
     }
-    RawRngAnswer::Refused(
-        Error::UnsupportedAddressSize(size),
-        Walk {
-            at: section.len(),
-            base_address,
-        },
-    )
 }
 
 pub enum RngConverted {
@@ -114,24 +86,22 @@ pub fn convert_raw(
 ) -> RngConverted
     ensures { λ r. ⌜ toldConvertedRange r ≡ convertedRange encoding endian (now («debug_addr» .entry)) «debug_addr_base» walk raw ⌝ }
 {
-    let at = walk.at;
-    let size = encoding.address_size as u64;
-    if bytes::reader::is_address_size(size) {
-        return match super::convert::convert_entry(
-            raw,
-            debug_addr,
-            debug_addr_base,
-            walk.base_address,
-            encoding,
-            endian,
-        ) {
-            Converted::Range(r) => RngConverted::Range(r, walk),
-            Converted::Base(base_address) => RngConverted::Nothing(Walk { at, base_address }),
-            Converted::Skip => RngConverted::Nothing(walk),
-            Converted::Refused(e) => RngConverted::Refused(e, walk),
-        };
+    match super::listed::convert_raw(
+        raw,
+        Expression { offset: 0, len: 0 },
+        debug_addr,
+        debug_addr_base,
+        walk,
+        encoding,
+        endian,
+    ) {
+        LocConverted::Location(x, after) => {
+            let range = x.range;
+            RngConverted::Range(range, after)
+        }
+        LocConverted::Nothing(after) => RngConverted::Nothing(after),
+        LocConverted::Refused(e, after) => RngConverted::Refused(e, after),
     }
-    RngConverted::Refused(Error::UnsupportedAddressSize(size), walk)
 }
 
 pub enum RngAnswer {
@@ -152,63 +122,21 @@ pub fn next(
 ) -> RngAnswer
     ensures { λ r. ⌜ toldNextRange r ≡ nextRange encoding endian (now (section .entry)) (now («debug_addr» .entry)) «debug_addr_base» walk ⌝ }
 {
-    let mut at = walk.at;
-    let mut base_address = walk.base_address;
-    let size = encoding.address_size as u64;
-    if bytes::reader::is_address_size(size) {
-        while at < section.len() {
-            match entries::rnglists::raw_range_entry(section, at, encoding, endian) {
-                RngStep::Refused(e) => {
-                    return RngAnswer::Refused(
-                        e,
-                        Walk {
-                            at: section.len(),
-                            base_address,
-                        },
-                    );
-                }
-                RngStep::End => {
-                    return RngAnswer::End(Walk {
-                        at: section.len(),
-                        base_address,
-                    });
-                }
-                RngStep::Entry(raw, c) => {
-                    let after = Walk {
-                        at: c,
-                        base_address,
-                    };
-                    match super::convert::convert_entry(
-                        raw,
-                        debug_addr,
-                        debug_addr_base,
-                        base_address,
-                        encoding,
-                        endian,
-                    ) {
-                        Converted::Range(r) => {
-                            return RngAnswer::Range(r, after);
-                        }
-                        Converted::Refused(e) => {
-                            return RngAnswer::Refused(e, after);
-                        }
-                        Converted::Base(b) => {
-                            base_address = b;
-                        }
-                        Converted::Skip => {}
-                    }
-                    at = c;
-                }
-            }
+    match super::listed::next(
+        section,
+        debug_addr,
+        debug_addr_base,
+        walk,
+        encoding,
+        endian,
+        false,
+        false,
+    ) {
+        LocAnswer::Location(x, after) => {
+            let range = x.range;
+            RngAnswer::Range(range, after)
         }
-        RngAnswer::End(Walk { at, base_address })
-    } else {
-        RngAnswer::Refused(
-            Error::UnsupportedAddressSize(size),
-            Walk {
-                at: section.len(),
-                base_address,
-            },
-        )
+        LocAnswer::End(after) => RngAnswer::End(after),
+        LocAnswer::Refused(e, after) => RngAnswer::Refused(e, after),
     }
 }

@@ -1,6 +1,6 @@
 -- Lookup (document 01, "Added"): the first yielded entry whose range holds an address.
 use Prim.Native.Nat.{ℕ}
-use mathlib.Core.Bool.{Bool, _&&_}
+use mathlib.Core.Bool.{Bool, false, true, _&&_}
 use mathlib.Core.List.{List}
 use lib.Dec.{leb, ltb}
 use lib.ListN.{length}
@@ -12,7 +12,7 @@ use Rattle.bytes.specs.declared.endianity.RunTimeEndian.{RunTimeEndian}
 use Rattle.entries.specs.declared.Expression.{Expression}
 use Rattle.lists.specs.Open.{opened}
 use Rattle.lists.specs.Convert.{tableAt}
-use Rattle.lists.specs.Walk.{ranges, locations, Item, item, Trace, over, gave, lost, trace}
+use Rattle.lists.specs.Walk.{listed, CarriedIn, itemIn, Item, item, Trace, over, gave, lost, trace}
 use Rattle.lists.specs.declared.Walk.{Walk}
 use Rattle.lookups.specs.declared.RangeFound.{RangeFound}
 use Rattle.lookups.specs.declared.RangeFound.the-variants as range
@@ -39,17 +39,20 @@ abbrev pub fromOpening : {D : Type 0} → (Walk → Found D) → Result Walk →
 fromOpening f (gives w) = f w
 fromOpening f (refuses n vs) = refused n vs
 
+-- both lists' lookups from a walk on, by whether the list holds locations
+abbrev pub lookupFrom : (l : Bool) → Bool → Encoding → RunTimeEndian → List ℕ → List ℕ → DebugAddrBase → ℕ → Walk → Found (CarriedIn l)
+lookupFrom l split p endian s table base a w =
+    lookupIn a (trace (listed l split p endian s) (tableAt endian p base table) (p .«address_size») (length s) w)
+
 abbrev pub lookupRangeFrom : Encoding → RunTimeEndian → List ℕ → List ℕ → DebugAddrBase → ℕ → Walk → Found Unit
-lookupRangeFrom p endian s table base a w =
-    lookupIn a (trace (ranges p endian s) (tableAt endian p base table) (p .«address_size») (length s) w)
+lookupRangeFrom p endian s table base a w = lookupFrom false false p endian s table base a w
 
 abbrev pub lookupRange : Encoding → RunTimeEndian → List ℕ → List ℕ → DebugAddrBase → ℕ → ℕ → ℕ → Found Unit
 lookupRange p endian s table tableBase offset base a =
     fromOpening (lookupRangeFrom p endian s table tableBase a) (opened p s offset base)
 
 abbrev pub lookupLocationFrom : Bool → Encoding → RunTimeEndian → List ℕ → List ℕ → DebugAddrBase → ℕ → Walk → Found Expression
-lookupLocationFrom split p endian s table base a w =
-    lookupIn a (trace (locations split p endian s) (tableAt endian p base table) (p .«address_size») (length s) w)
+lookupLocationFrom split p endian s table base a w = lookupFrom true split p endian s table base a w
 
 abbrev pub lookupLocation : Bool → Encoding → RunTimeEndian → List ℕ → List ℕ → DebugAddrBase → ℕ → ℕ → ℕ → Found Expression
 lookupLocation split p endian s table tableBase offset base a =
@@ -64,3 +67,9 @@ abbrev pub toldLocation : LocationFound → Found Expression
 toldLocation (location.Found x) = found (item (x .range .begin) (x .range .end) (x .«data»))
 toldLocation location.NotThere = notThere
 toldLocation (location.Refused e) = refused (number e) (values e)
+
+-- an answer of the code for both lists, told as its list's
+abbrev pub foundIn : (l : Bool) → Found Expression → Found (CarriedIn l)
+foundIn l (found i) = found (itemIn l i)
+foundIn l notThere = notThere
+foundIn l (refused n vs) = refused n vs

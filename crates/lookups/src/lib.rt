@@ -10,11 +10,10 @@ use lists::Opened;
 use lists::Range;
 use lists::Walk;
 use lists::loclists::LocAnswer;
-use lists::rnglists::RngAnswer;
 ghost use mathlib.Core.Path.{_≡_};
-ghost use mathlib.Core.Bool.{true};
+ghost use mathlib.Core.Bool.{true, false};
 ghost use Rattle.bytes.specs.Reader.{isSize};
-ghost use Rattle.lookups.specs.Lookup.{holds as holdsAt, toldRange, lookupRange, lookupRangeFrom, toldLocation, lookupLocation, lookupLocationFrom};
+ghost use Rattle.lookups.specs.Lookup.{holds as holdsAt, foundIn, lookupFrom, toldRange, lookupRange, toldLocation, lookupLocation};
 
 pub enum RangeFound {
     Found(Range),
@@ -38,34 +37,62 @@ pub fn holds(range: Range, address: u64) -> bool
     false
 }
 
-fn range_from(
+// The first item from a walk on whose range holds an address, or the first refusal met before it; in a range list it carries
+// no expression.
+fn found_from(
     section: &[u8],
     debug_addr: &[u8],
     debug_addr_base: DebugAddrBase,
     start: Walk,
     encoding: Encoding,
     endian: RunTimeEndian,
+    locations: bool,
+    split: bool,
     address: u64,
-) -> RangeFound
+) -> LocationFound
     requires { ⌜ isSize (encoding .«address_size») ≡ true ⌝ }
-    ensures { λ r. ⌜ toldRange r ≡ lookupRangeFrom encoding endian (now (section .entry)) (now («debug_addr» .entry)) «debug_addr_base» address start ⌝ }
+    ensures { λ r. ⌜ foundIn locations (toldLocation r) ≡ lookupFrom locations split encoding endian (now (section .entry)) (now («debug_addr» .entry)) «debug_addr_base» address start ⌝ }
 {
     let mut walk = start;
     loop {
-        match lists::rnglists::next(section, debug_addr, debug_addr_base, walk, encoding, endian) {
-            RngAnswer::Range(range, after) => {
+        match lists::listed::next(
+            section,
+            debug_addr,
+            debug_addr_base,
+            walk,
+            encoding,
+            endian,
+            locations,
+            split,
+        ) {
+            LocAnswer::Location(location, after) => {
+                let range = location.range;
                 if holds(range, address) {
-                    return RangeFound::Found(range);
+                    return LocationFound::Found(location);
                 }
                 walk = after;
             }
-            RngAnswer::End(_) => {
-                return RangeFound::NotThere;
+            LocAnswer::End(_) => {
+                return LocationFound::NotThere;
             }
-            RngAnswer::Refused(e, _) => {
-                return RangeFound::Refused(e);
+            LocAnswer::Refused(e, _) => {
+                return LocationFound::Refused(e);
             }
         }
+    }
+}
+
+// A location found, without what it carries.
+fn range_found(r: LocationFound) -> RangeFound
+    ensures { λ q. ⌜ toldRange q ≡ foundIn false (toldLocation r) ⌝ }
+{
+    match r {
+        LocationFound::Found(x) => {
+            let range = x.range;
+            RangeFound::Found(range)
+        }
+        LocationFound::NotThere => RangeFound::NotThere,
+        LocationFound::Refused(e) => RangeFound::Refused(e),
     }
 }
 
@@ -85,55 +112,19 @@ pub fn lookup_range(
 {
     match lists::rnglists::ranges(section, offset, encoding, base_address) {
         Opened::Refused(e) => RangeFound::Refused(e),
-        Opened::List(start) => range_from(
-            section,
-            debug_addr,
-            debug_addr_base,
-            start,
-            encoding,
-            endian,
-            address,
-        ),
-    }
-}
-
-fn location_from(
-    section: &[u8],
-    debug_addr: &[u8],
-    debug_addr_base: DebugAddrBase,
-    start: Walk,
-    encoding: Encoding,
-    endian: RunTimeEndian,
-    split: bool,
-    address: u64,
-) -> LocationFound
-    requires { ⌜ isSize (encoding .«address_size») ≡ true ⌝ }
-    ensures { λ r. ⌜ toldLocation r ≡ lookupLocationFrom split encoding endian (now (section .entry)) (now («debug_addr» .entry)) «debug_addr_base» address start ⌝ }
-{
-    let mut walk = start;
-    loop {
-        match lists::loclists::next(
-            section,
-            debug_addr,
-            debug_addr_base,
-            walk,
-            encoding,
-            endian,
-            split,
-        ) {
-            LocAnswer::Location(location, after) => {
-                let range = location.range;
-                if holds(range, address) {
-                    return LocationFound::Found(location);
-                }
-                walk = after;
-            }
-            LocAnswer::End(_) => {
-                return LocationFound::NotThere;
-            }
-            LocAnswer::Refused(e, _) => {
-                return LocationFound::Refused(e);
-            }
+        Opened::List(start) => {
+            let found = found_from(
+                section,
+                debug_addr,
+                debug_addr_base,
+                start,
+                encoding,
+                endian,
+                false,
+                false,
+                address,
+            );
+            range_found(found)
         }
     }
 }
@@ -155,13 +146,14 @@ pub fn lookup_location(
 {
     match lists::loclists::locations(section, offset, encoding, base_address) {
         Opened::Refused(e) => LocationFound::Refused(e),
-        Opened::List(start) => location_from(
+        Opened::List(start) => found_from(
             section,
             debug_addr,
             debug_addr_base,
             start,
             encoding,
             endian,
+            true,
             split,
             address,
         ),

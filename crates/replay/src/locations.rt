@@ -21,7 +21,7 @@ fn form(x: RawLocListEntry) -> Form {
             a: 0,
             b: 0,
         },
-        _ => ranges::form(lists::convert::bounds_of(x)),
+        _ => ranges::form(entries::raw::bounds_of(x)),
     }
 }
 

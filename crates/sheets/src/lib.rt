@@ -2,6 +2,7 @@
 use bytes::Num;
 use bytes::endianity::RunTimeEndian;
 use bytes::error::Error;
+use bytes::put::put_u64;
 use bytes::reader::read_u16;
 use bytes::reader::read_u64;
 use coverage::Coverage;
@@ -10,7 +11,6 @@ use coverage::Made;
 use coverage::Verdict;
 use coverage::Wrote;
 use coverage::lawful::is_lawful;
-use bytes::put::put_u64;
 ghost use mathlib.Core.Path.{_≡_};
 ghost use Prim.Native.Nat.{_+_, _*_, _≤_};
 ghost use lib.ListN.{length, take, drop};

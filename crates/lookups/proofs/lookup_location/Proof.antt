@@ -1,5 +1,6 @@
 -- Opening, then the lookup from there. Assumes nothing.
 use Rattle.lists.proofs.OpenLaws.{opened-size}
+use Rattle.lookups.proofs.FoundLaws.{found-same}
 use Rattle.lookups.specs.Lookup.{fromOpening}
 use Rattle.lists.specs.Open.{toldOpened}
 use mathlib.Core.Path.{sym, ap, _∙_}
@@ -16,14 +17,14 @@ enum-known-e c = search needs
 enum-known-start : tie.Need-enum-known-start
 enum-known-start c = search needs
 
-location-from-requires : tie.Need-location-from-requires
-location-from-requires c κs = opened-size _ _ _ _ (sym (c .before .before .before .locations .ensures) ∙ ap toldOpened (c .before .start .given .1))
+found-from-requires : tie.Need-found-from-requires
+found-from-requires c κs = opened-size _ _ _ _ (sym (c .before .before .before .locations .ensures) ∙ ap toldOpened (c .before .start .given .1))
 
 returns : tie.Need-returns
 returns c = sym (ap (fromOpening _) (sym (c .before .before .before .locations .ensures) ∙ ap toldOpened (c .before .e .given .1)))
 
 returns-2 : tie.Need-returns-2
-returns-2 c = c .location-from .ensures ∙ sym (ap (fromOpening _) (sym (c .before .before .before .before .locations .ensures) ∙ ap toldOpened (c .before .before .start .given .1)))
+returns-2 c = sym (found-same _) ∙ c .found-from .ensures ∙ sym (ap (fromOpening _) (sym (c .before .before .before .before .locations .ensures) ∙ ap toldOpened (c .before .before .start .given .1)))
 
 pub lookup-location-spec : {M : Type 1} → statement M
 lookup-location-spec =
@@ -32,6 +33,6 @@ lookup-location-spec =
     locations-requires
     enum-known-e
     enum-known-start
-    location-from-requires
+    found-from-requires
     returns
     returns-2)

@@ -89,8 +89,8 @@ unfolding kindOf rangeKinds
 returns-4 c = passed-on (c .passed4 .ensures) (c .before .enum-told4 .given .1)
     ∙ ap (stepFrom _) (sym (at-code (c .before .before .before .before .before .before .before .before .before) 2 (c .before .before .before .before .before .before .before .before .match2 .keys3) ∙ index-then _ (c .before .before .before .before .before .before .before .unsigned2 .ensures) (c .before .before .before .before .before .r12 .given .1) ∙ no-index-then _ (c .before .before .before .unsigned3 .ensures) (c .before .enum-told4 .given .1)))
 
-add-t52 : tie.Need-add-t52
-add-t52 c = omega (arith, unsigned-within _ _ (c .before .before .before .unsigned3 .ensures) (c .before .r2 .given .1))
+add-t53 : tie.Need-add-t53
+add-t53 c = omega (arith, unsigned-within _ _ (c .before .before .before .unsigned3 .ensures) (c .before .r2 .given .1))
 
 unsigned-requires-4 : tie.Need-unsigned-requires-4
 unsigned-requires-4 c κs = search needs
@@ -126,8 +126,8 @@ unfolding kindOf rangeKinds
 returns-6 c = passed-on (c .passed6 .ensures) (c .before .enum-told6 .given .1)
     ∙ ap (stepFrom _) (sym (at-code (c .before .before .before .before .before .before .before .before .before) 3 (c .before .before .before .before .before .before .before .before .match2 .keys4) ∙ index-then _ (c .before .before .before .before .before .before .before .unsigned4 .ensures) (c .before .before .before .before .before .r13 .given .1) ∙ refused-then _ (c .before .before .before .unsigned5 .ensures) (c .before .enum-told6 .given .1)))
 
-add-t55 : tie.Need-add-t55
-add-t55 c = omega (arith, unsigned-within _ _ (c .before .before .before .unsigned5 .ensures) (c .before .r22 .given .1))
+add-t57 : tie.Need-add-t57
+add-t57 c = omega (arith, unsigned-within _ _ (c .before .before .before .unsigned5 .ensures) (c .before .r22 .given .1))
 
 unsigned-requires-6 : tie.Need-unsigned-requires-6
 unsigned-requires-6 c κs = search needs
@@ -163,8 +163,8 @@ unfolding kindOf rangeKinds
 returns-8 c = passed-on (c .passed8 .ensures) (c .before .enum-told8 .given .1)
     ∙ ap (stepFrom _) (sym (at-code (c .before .before .before .before .before .before .before .before .before) 4 (c .before .before .before .before .before .before .before .before .match2 .keys5) ∙ got-then _ (c .before .before .before .before .before .before .before .unsigned6 .ensures) (c .before .before .before .before .before .r14 .given .1) ∙ refused-then _ (c .before .before .before .unsigned7 .ensures) (c .before .enum-told8 .given .1)))
 
-add-t57 : tie.Need-add-t57
-add-t57 c = omega (arith, unsigned-within _ _ (c .before .before .before .unsigned7 .ensures) (c .before .r23 .given .1))
+add-t60 : tie.Need-add-t60
+add-t60 c = omega (arith, unsigned-within _ _ (c .before .before .before .unsigned7 .ensures) (c .before .r23 .given .1))
 
 read-address-requires : tie.Need-read-address-requires
 read-address-requires c κs = search needs
@@ -183,8 +183,8 @@ unfolding kindOf rangeKinds
 returns-9 c = passed-on (c .passed9 .ensures) (c .before .enum-told9 .given .1)
     ∙ ap (stepFrom _) (sym (at-code (c .before .before .before .before .before) 5 (c .before .before .before .before .match2 .keys6) ∙ refused-then _ (c .before .before .before .read-address .ensures) (c .before .enum-told9 .given .1)))
 
-add-t59 : tie.Need-add-t59
-add-t59 c = omega (arith, address-within _ _ _ _ (c .before .before .before .read-address .ensures) (c .before .r15 .given .1))
+add-t62 : tie.Need-add-t62
+add-t62 c = omega (arith, address-within _ _ _ _ (c .before .before .before .read-address .ensures) (c .before .r15 .given .1))
 
 read-address-requires-2 : tie.Need-read-address-requires-2
 read-address-requires-2 c κs = search needs
@@ -220,8 +220,8 @@ unfolding kindOf rangeKinds
 returns-11 c = passed-on (c .passed11 .ensures) (c .before .enum-told11 .given .1)
     ∙ ap (stepFrom _) (sym (at-code (c .before .before .before .before .before .before .before .before .before) 6 (c .before .before .before .before .before .before .before .before .match2 .keys7) ∙ got-then _ (c .before .before .before .before .before .before .before .read-address2 .ensures) (c .before .before .before .before .before .r16 .given .1) ∙ refused-then _ (c .before .before .before .read-address3 .ensures) (c .before .enum-told11 .given .1)))
 
-add-t61 : tie.Need-add-t61
-add-t61 c = omega (arith, address-within _ _ _ _ (c .before .before .before .read-address3 .ensures) (c .before .r24 .given .1))
+add-t65 : tie.Need-add-t65
+add-t65 c = omega (arith, address-within _ _ _ _ (c .before .before .before .read-address3 .ensures) (c .before .r24 .given .1))
 
 read-address-requires-4 : tie.Need-read-address-requires-4
 read-address-requires-4 c κs = search needs
@@ -257,8 +257,8 @@ unfolding kindOf rangeKinds
 returns-13 c = passed-on (c .passed13 .ensures) (c .before .enum-told13 .given .1)
     ∙ ap (stepFrom _) (sym (at-code (c .before .before .before .before .before .before .before .before .before) 7 (c .before .before .before .before .before .before .before .before .match2 .keys8) ∙ got-then _ (c .before .before .before .before .before .before .before .read-address4 .ensures) (c .before .before .before .before .before .r17 .given .1) ∙ refused-then _ (c .before .before .before .unsigned8 .ensures) (c .before .enum-told13 .given .1)))
 
-add-t63 : tie.Need-add-t63
-add-t63 c = omega (arith, unsigned-within _ _ (c .before .before .before .unsigned8 .ensures) (c .before .r25 .given .1))
+add-t68 : tie.Need-add-t68
+add-t68 c = omega (arith, unsigned-within _ _ (c .before .before .before .unsigned8 .ensures) (c .before .r25 .given .1))
 
 returns-14 : tie.Need-returns-14
 unfolding kindOf rangeKinds
@@ -321,7 +321,7 @@ coded-range-spec =
     enum-told-4
     passed-requires-4
     returns-4
-    add-t52
+    add-t53
     unsigned-requires-4
     enum-known-r1-3
     enum-told-5
@@ -332,7 +332,7 @@ coded-range-spec =
     enum-told-6
     passed-requires-6
     returns-6
-    add-t55
+    add-t57
     unsigned-requires-6
     enum-known-r1-4
     enum-told-7
@@ -343,13 +343,13 @@ coded-range-spec =
     enum-told-8
     passed-requires-8
     returns-8
-    add-t57
+    add-t60
     read-address-requires
     enum-known-r1-5
     enum-told-9
     passed-requires-9
     returns-9
-    add-t59
+    add-t62
     read-address-requires-2
     enum-known-r1-6
     enum-told-10
@@ -360,7 +360,7 @@ coded-range-spec =
     enum-told-11
     passed-requires-11
     returns-11
-    add-t61
+    add-t65
     read-address-requires-4
     enum-known-r1-7
     enum-told-12
@@ -371,7 +371,7 @@ coded-range-spec =
     enum-told-13
     passed-requires-13
     returns-13
-    add-t63
+    add-t68
     returns-14
     returns-15
     returns-16

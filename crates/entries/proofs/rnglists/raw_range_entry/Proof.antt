@@ -1,37 +1,46 @@
--- What is answered for the part from the place on is the section's answer there. Assumes nothing.
-use mathlib.Core.Path.{sym, ap}
+-- The entry's bounds are the range's. Assumes nothing.
+use mathlib.Core.Bool.{false}
+use mathlib.Core.Path.{sym, ap, _∙_}
 use borrow.Author.Needs.{needs}
-use Rattle.entries.specs.Told.{stepOf}
-use Rattle.entries.proofs.KindLaws.{raw-end}
-use Rattle.entries.proofs.MovedLaws.{raw-from}
+use Rattle.entries.specs.Told.{toldLocation}
+use Rattle.entries.specs.Listed.{stepIn}
+use Rattle.entries.proofs.HeadLaws.{entry-built}
 use Rattle.entries.proofs.rnglists.raw_range_entry.Statement.{statement}
 use Rattle.entries.proofs.rnglists.raw_range_entry.Tie as tie
 
+raw-entry-requires : tie.Need-raw-entry-requires
+raw-entry-requires c κs = search needs
+
+enum-known-e : tie.Need-enum-known-e
+enum-known-e c = search needs
+
+bounds-of-requires : tie.Need-bounds-of-requires
+bounds-of-requires c κs = search needs
+
+enum-told : tie.Need-enum-told
+enum-told c = search needs
+
+enum-known-e-2 : tie.Need-enum-known-e-2
+enum-known-e-2 c = search needs
+
 returns : tie.Need-returns
-returns c = ap stepOf (sym (raw-end _ _ _ (c .if1 .taken)))
-
-sub-range-entry : tie.Need-sub-range-entry
-sub-range-entry c = search needs
-
-part-range-entry-start : tie.Need-part-range-entry-start
-part-range-entry-start c = search needs
-
-part-range-entry-end : tie.Need-part-range-entry-end
-part-range-entry-end c = search needs
-
-range-entry-requires : tie.Need-range-entry-requires
-range-entry-requires c κs = search needs
+returns c = entry-built (c .bounds-of .ensures) (sym (ap (λ r. stepIn false (toldLocation r)) (c .before .before .e .given .1)) ∙ c .before .before .before .before .raw-entry .ensures)
 
 returns-2 : tie.Need-returns-2
-returns-2 c = raw-from _ _ _ (c .before .before .if1 .left) (c .range-entry .ensures)
+returns-2 c = sym (ap (λ r. stepIn false (toldLocation r)) (c .enum-told .given .1)) ∙ c .before .before .raw-entry .ensures
+
+returns-3 : tie.Need-returns-3
+returns-3 c = sym (ap (λ r. stepIn false (toldLocation r)) (c .before .e2 .given .1)) ∙ c .before .before .before .raw-entry .ensures
 
 pub raw-range-entry-spec : {M : Type 1} → statement M
 raw-range-entry-spec =
     tie.close
     (tie.spec
+    raw-entry-requires
+    enum-known-e
+    bounds-of-requires
+    enum-told
+    enum-known-e-2
     returns
-    sub-range-entry
-    part-range-entry-start
-    part-range-entry-end
-    range-entry-requires
-    returns-2)
+    returns-2
+    returns-3)

@@ -1,56 +1,15 @@
--- The size, the place, then what the reader answers. Assumes nothing.
-use Rattle.lists.proofs.ConvertLaws.{raw-other, raw-over, raw-entry, raw-end, raw-failed}
-use Rattle.entries.specs.Told.{toldLocation}
-use mathlib.Core.Path.{sym, ap, _∙_}
+-- An answer for a location is the code's own. Assumes nothing.
+use mathlib.Core.Path.{sym, _∙_}
 use borrow.Author.Needs.{needs}
+use Rattle.lists.proofs.ListedLaws.{raw-same}
 use Rattle.lists.proofs.loclists.next_raw.Statement.{statement}
 use Rattle.lists.proofs.loclists.next_raw.Tie as tie
 
-cast-size : tie.Need-cast-size
-cast-size c = search needs
-
-is-address-size-requires : tie.Need-is-address-size-requires
-is-address-size-requires c κs = search needs
+next-raw-requires : tie.Need-next-raw-requires
+next-raw-requires c κs = search needs
 
 returns : tie.Need-returns
-returns c = sym (raw-over _ _ _ _ (sym (c .before .before .is-address-size .ensures) ∙ c .before .if1 .taken) (c .if2 .taken))
-
-raw-location-entry-requires : tie.Need-raw-location-entry-requires
-raw-location-entry-requires c κs = search needs
-
-enum-known-raw : tie.Need-enum-known-raw
-enum-known-raw c = search needs
-
-enum-told : tie.Need-enum-told
-enum-told c = search needs
-
-enum-known-e : tie.Need-enum-known-e
-enum-known-e c = search needs
-
-returns-2 : tie.Need-returns-2
-returns-2 c = sym (raw-entry _ _ _ _ (sym (c .before .before .before .before .before .before .is-address-size .ensures) ∙ c .before .before .before .before .before .if1 .taken) (c .before .before .before .before .if2 .left) (sym (ap toldLocation (c .before .raw .given .1)) ∙ c .before .before .before .raw-location-entry .ensures))
-
-returns-3 : tie.Need-returns-3
-returns-3 c = sym (raw-end _ _ _ _ (sym (c .before .before .before .before .before .is-address-size .ensures) ∙ c .before .before .before .before .if1 .taken) (c .before .before .before .if2 .left) (sym (ap toldLocation (c .enum-told .given .1)) ∙ c .before .before .raw-location-entry .ensures))
-
-returns-4 : tie.Need-returns-4
-returns-4 c = sym (raw-failed _ _ _ _ (sym (c .before .before .before .before .before .before .is-address-size .ensures) ∙ c .before .before .before .before .before .if1 .taken) (c .before .before .before .before .if2 .left) (sym (ap toldLocation (c .before .e .given .1)) ∙ c .before .before .before .raw-location-entry .ensures))
-
-returns-5 : tie.Need-returns-5
-returns-5 c = sym (raw-other _ _ _ _ (sym (c .before .is-address-size .ensures) ∙ c .if1 .left))
+returns c = sym (raw-same _) ∙ c .next-raw .ensures
 
 pub next-raw-spec : {M : Type 1} → statement M
-next-raw-spec =
-    tie.close
-    (tie.spec
-    cast-size
-    is-address-size-requires
-    returns
-    raw-location-entry-requires
-    enum-known-raw
-    enum-told
-    enum-known-e
-    returns-2
-    returns-3
-    returns-4
-    returns-5)
+next-raw-spec = tie.close (tie.spec next-raw-requires returns)

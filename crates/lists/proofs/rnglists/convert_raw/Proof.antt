@@ -1,60 +1,41 @@
--- The size, then what the conversion answers. Assumes nothing.
-use Rattle.lists.proofs.ConvertLaws.{converted-other, converted-is}
-use Rattle.lists.specs.Convert.{told, convert}
+-- What the code carries beside a range is not told. Assumes nothing.
+use mathlib.Core.Bool.{false}
 use mathlib.Core.Path.{sym, ap, _∙_}
 use borrow.Author.Needs.{needs}
+use Rattle.lists.specs.Walk.{outcomeIn, toldConvertedLocation}
+use Rattle.lists.proofs.ListedLaws.{converted-range}
 use Rattle.lists.proofs.rnglists.convert_raw.Statement.{statement}
 use Rattle.lists.proofs.rnglists.convert_raw.Tie as tie
 
-cast-size : tie.Need-cast-size
-cast-size c = search needs
+convert-raw-requires : tie.Need-convert-raw-requires
+convert-raw-requires c κs = search needs
 
-is-address-size-requires : tie.Need-is-address-size-requires
-is-address-size-requires c κs = search needs
+enum-known-x : tie.Need-enum-known-x
+enum-known-x c = search needs
 
-convert-entry-requires : tie.Need-convert-entry-requires
-convert-entry-requires c κs = search needs
-
-enum-known-r : tie.Need-enum-known-r
-enum-known-r c = search needs
-
-enum-known-base-address : tie.Need-enum-known-base-address
-enum-known-base-address c = search needs
-
-enum-told : tie.Need-enum-told
-enum-told c = search needs
+enum-known-after : tie.Need-enum-known-after
+enum-known-after c = search needs
 
 enum-known-e : tie.Need-enum-known-e
 enum-known-e c = search needs
 
 returns : tie.Need-returns
-returns c = sym (converted-is _ _ _ _ _ (sym (c .before .before .before .before .before .is-address-size .ensures) ∙ c .before .before .before .before .if1 .taken) (sym (ap told (c .before .r .given .1)) ∙ c .before .before .before .convert-entry .ensures))
+returns c = sym (ap (λ r. outcomeIn false (toldConvertedLocation r)) (c .before .before .x .given .1)) ∙ ap (outcomeIn false) (c .before .before .before .before .convert-raw .ensures) ∙ converted-range _ _ _ _ _ _ _ _
 
 returns-2 : tie.Need-returns-2
-returns-2 c = sym (converted-is _ _ _ _ _ (sym (c .before .before .before .before .before .is-address-size .ensures) ∙ c .before .before .before .before .if1 .taken) (sym (ap told (c .before .base-address .given .1)) ∙ c .before .before .before .convert-entry .ensures))
+returns-2 c = sym (ap (λ r. outcomeIn false (toldConvertedLocation r)) (c .before .after .given .1)) ∙ ap (outcomeIn false) (c .before .before .before .convert-raw .ensures) ∙ converted-range _ _ _ _ _ _ _ _
 
 returns-3 : tie.Need-returns-3
-returns-3 c = sym (converted-is _ _ _ _ _ (sym (c .before .before .before .before .is-address-size .ensures) ∙ c .before .before .before .if1 .taken) (sym (ap told (c .enum-told .given .1)) ∙ c .before .before .convert-entry .ensures))
-
-returns-4 : tie.Need-returns-4
-returns-4 c = sym (converted-is _ _ _ _ _ (sym (c .before .before .before .before .before .is-address-size .ensures) ∙ c .before .before .before .before .if1 .taken) (sym (ap told (c .before .e .given .1)) ∙ c .before .before .before .convert-entry .ensures))
-
-returns-5 : tie.Need-returns-5
-returns-5 c = sym (converted-other _ _ _ _ _ (sym (c .before .is-address-size .ensures) ∙ c .if1 .left))
+returns-3 c = sym (ap (λ r. outcomeIn false (toldConvertedLocation r)) (c .before .e .given .1)) ∙ ap (outcomeIn false) (c .before .before .before .convert-raw .ensures) ∙ converted-range _ _ _ _ _ _ _ _
 
 pub convert-raw-spec : {M : Type 1} → statement M
 convert-raw-spec =
     tie.close
     (tie.spec
-    cast-size
-    is-address-size-requires
-    convert-entry-requires
-    enum-known-r
-    enum-known-base-address
-    enum-told
+    convert-raw-requires
+    enum-known-x
+    enum-known-after
     enum-known-e
     returns
     returns-2
-    returns-3
-    returns-4
-    returns-5)
+    returns-3)

@@ -1,56 +1,44 @@
--- The size, the place, then what the reader answers. Assumes nothing.
-use Rattle.lists.proofs.ConvertLaws.{raw-other, raw-over, raw-entry, raw-end, raw-failed}
-use Rattle.entries.specs.Told.{toldRange}
+-- The entry's bounds are the range's. Assumes nothing.
+use mathlib.Core.Bool.{false}
 use mathlib.Core.Path.{sym, ap, _∙_}
 use borrow.Author.Needs.{needs}
+use Rattle.lists.specs.Walk.{nextRawIn, toldRawLocation}
 use Rattle.lists.proofs.rnglists.next_raw.Statement.{statement}
 use Rattle.lists.proofs.rnglists.next_raw.Tie as tie
 
-cast-size : tie.Need-cast-size
-cast-size c = search needs
-
-is-address-size-requires : tie.Need-is-address-size-requires
-is-address-size-requires c κs = search needs
-
-returns : tie.Need-returns
-returns c = sym (raw-over _ _ _ _ (sym (c .before .before .is-address-size .ensures) ∙ c .before .if1 .taken) (c .if2 .taken))
-
-raw-range-entry-requires : tie.Need-raw-range-entry-requires
-raw-range-entry-requires c κs = search needs
+next-raw-requires : tie.Need-next-raw-requires
+next-raw-requires c κs = search needs
 
 enum-known-raw : tie.Need-enum-known-raw
 enum-known-raw c = search needs
 
-enum-told : tie.Need-enum-told
-enum-told c = search needs
+bounds-of-requires : tie.Need-bounds-of-requires
+bounds-of-requires c κs = search needs
+
+enum-known-after : tie.Need-enum-known-after
+enum-known-after c = search needs
 
 enum-known-e : tie.Need-enum-known-e
 enum-known-e c = search needs
 
+returns : tie.Need-returns
+returns c = rw (c .bounds-of .ensures) (sym (ap (λ r. nextRawIn false (toldRawLocation r)) (c .before .before .raw .given .1)) ∙ c .before .before .before .before .next-raw .ensures)
+
 returns-2 : tie.Need-returns-2
-returns-2 c = sym (raw-entry _ _ _ _ (sym (c .before .before .before .before .before .before .is-address-size .ensures) ∙ c .before .before .before .before .before .if1 .taken) (c .before .before .before .before .if2 .left) (sym (ap toldRange (c .before .raw .given .1)) ∙ c .before .before .before .raw-range-entry .ensures))
+returns-2 c = sym (ap (λ r. nextRawIn false (toldRawLocation r)) (c .before .after .given .1)) ∙ c .before .before .before .next-raw .ensures
 
 returns-3 : tie.Need-returns-3
-returns-3 c = sym (raw-end _ _ _ _ (sym (c .before .before .before .before .before .is-address-size .ensures) ∙ c .before .before .before .before .if1 .taken) (c .before .before .before .if2 .left) (sym (ap toldRange (c .enum-told .given .1)) ∙ c .before .before .raw-range-entry .ensures))
-
-returns-4 : tie.Need-returns-4
-returns-4 c = sym (raw-failed _ _ _ _ (sym (c .before .before .before .before .before .before .is-address-size .ensures) ∙ c .before .before .before .before .before .if1 .taken) (c .before .before .before .before .if2 .left) (sym (ap toldRange (c .before .e .given .1)) ∙ c .before .before .before .raw-range-entry .ensures))
-
-returns-5 : tie.Need-returns-5
-returns-5 c = sym (raw-other _ _ _ _ (sym (c .before .is-address-size .ensures) ∙ c .if1 .left))
+returns-3 c = sym (ap (λ r. nextRawIn false (toldRawLocation r)) (c .before .e .given .1)) ∙ c .before .before .before .next-raw .ensures
 
 pub next-raw-spec : {M : Type 1} → statement M
 next-raw-spec =
     tie.close
     (tie.spec
-    cast-size
-    is-address-size-requires
-    returns
-    raw-range-entry-requires
+    next-raw-requires
     enum-known-raw
-    enum-told
+    bounds-of-requires
+    enum-known-after
     enum-known-e
+    returns
     returns-2
-    returns-3
-    returns-4
-    returns-5)
+    returns-3)

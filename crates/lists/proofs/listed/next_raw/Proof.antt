@@ -1,0 +1,58 @@
+-- The size, the place, then what the reader answers. Assumes nothing.
+use Rattle.lists.proofs.ConvertLaws.{raw-other, raw-over, raw-entry, raw-end, raw-failed}
+use Rattle.entries.specs.Told.{toldLocation}
+use Rattle.entries.specs.Listed.{stepIn}
+use Rattle.lists.specs.Walk.{listed}
+use mathlib.Core.Path.{sym, ap, _∙_}
+use borrow.Author.Needs.{needs}
+use Rattle.lists.proofs.listed.next_raw.Statement.{statement}
+use Rattle.lists.proofs.listed.next_raw.Tie as tie
+
+cast-size : tie.Need-cast-size
+cast-size c = search needs
+
+is-address-size-requires : tie.Need-is-address-size-requires
+is-address-size-requires c κs = search needs
+
+returns : tie.Need-returns
+returns c = sym (raw-over _ _ _ _ (sym (c .before .before .is-address-size .ensures) ∙ c .before .if1 .taken) (c .if2 .taken))
+
+raw-entry-requires : tie.Need-raw-entry-requires
+raw-entry-requires c κs = search needs
+
+enum-known-raw : tie.Need-enum-known-raw
+enum-known-raw c = search needs
+
+enum-told : tie.Need-enum-told
+enum-told c = search needs
+
+enum-known-e : tie.Need-enum-known-e
+enum-known-e c = search needs
+
+returns-2 : tie.Need-returns-2
+returns-2 c = sym (raw-entry (let a = c .before .before .before .before .before .before .before .before .before .args in listed (a .locations) (a .split) (a .encoding) (a .endian) (a .section .now)) _ _ _ (sym (c .before .before .before .before .before .before .is-address-size .ensures) ∙ c .before .before .before .before .before .if1 .taken) (c .before .before .before .before .if2 .left) (sym (ap (λ r. stepIn (c .before .before .before .before .before .before .before .before .before .args .locations) (toldLocation r)) (c .before .raw .given .1)) ∙ c .before .before .before .raw-entry .ensures))
+
+returns-3 : tie.Need-returns-3
+returns-3 c = sym (raw-end (let a = c .before .before .before .before .before .before .before .before .args in listed (a .locations) (a .split) (a .encoding) (a .endian) (a .section .now)) _ _ _ (sym (c .before .before .before .before .before .is-address-size .ensures) ∙ c .before .before .before .before .if1 .taken) (c .before .before .before .if2 .left) (sym (ap (λ r. stepIn (c .before .before .before .before .before .before .before .before .args .locations) (toldLocation r)) (c .enum-told .given .1)) ∙ c .before .before .raw-entry .ensures))
+
+returns-4 : tie.Need-returns-4
+returns-4 c = sym (raw-failed (let a = c .before .before .before .before .before .before .before .before .before .args in listed (a .locations) (a .split) (a .encoding) (a .endian) (a .section .now)) _ _ _ (sym (c .before .before .before .before .before .before .is-address-size .ensures) ∙ c .before .before .before .before .before .if1 .taken) (c .before .before .before .before .if2 .left) (sym (ap (λ r. stepIn (c .before .before .before .before .before .before .before .before .before .args .locations) (toldLocation r)) (c .before .e .given .1)) ∙ c .before .before .before .raw-entry .ensures))
+
+returns-5 : tie.Need-returns-5
+returns-5 c = sym (raw-other _ _ _ _ (sym (c .before .is-address-size .ensures) ∙ c .if1 .left))
+
+pub next-raw-spec : {M : Type 1} → statement M
+next-raw-spec =
+    tie.close
+    (tie.spec
+    cast-size
+    is-address-size-requires
+    returns
+    raw-entry-requires
+    enum-known-raw
+    enum-told
+    enum-known-e
+    returns-2
+    returns-3
+    returns-4
+    returns-5)
