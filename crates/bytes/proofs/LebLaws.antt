@@ -1,7 +1,7 @@
 -- The loop of an unsigned LEB128 number: what is known before each byte, that the number's answer is that for the bytes left
 -- with the bits gathered, and one byte more. Assumes nothing.
-use mathlib.Core.Path.{_≡_, refl, sym, ap, _∙_}
-use mathlib.Core.Bool.{false, _&&_, and-false}
+use mathlib.Core.Path.{_≡_, refl, sym, ap, ap₂, _∙_}
+use mathlib.Core.Bool.{Bool, true, false, _&&_, and-false, and-eq-true-iff}
 use mathlib.Core.List.{List}
 use mathlib.Core.Logic.{_⊎_, inr, ⊎-elim}
 use Prim.Native.Nat.{ℕ, _+_, _-_, _*_, _%_, _^_, _≤_, _<_}
@@ -14,10 +14,10 @@ use lib.Dec.{eqb, ltb}
 use lib.Arith.{digits-lt}
 use lib.Pow.{pow-add, shl-exact}
 use lib.Bits.{bitAnd, bitOr, and-mask, or-shifted-r}
-use borrow.Author.Tests.{lt-ltb, le-ltb, eq-eqb, ne-eqb}
-use Rattle.bytes.specs.Read.{Read, got, refused}
+use borrow.Author.Tests.{lt-ltb, le-ltb, eq-eqb, ne-eqb, ltb-true}
+use Rattle.bytes.specs.Read.{Read, got, refused, pick}
 use Rattle.bytes.specs.Error.{refusal}
-use Rattle.bytes.specs.Leb128.{below, unsignedFrom, unsigned}
+use Rattle.bytes.specs.Leb128.{below, unsignedFrom, unsigned, oneByte, noByte, single}
 use Rattle.bytes.specs.declared.error.Error.the-variants.{UnexpectedEof, BadUnsignedLeb128}
 
 -- an answer for the bytes that are left, joined with the low bits that were gathered
@@ -140,3 +140,28 @@ two s at h b l = last (begun s at (omega arith) b) h (inr (omega arith)) l
 
 pub none : (s : List ℕ) (at : ℕ) → length s ≤ at → refusal UnexpectedEof ≡ unsigned s at
 none s at h = ended (gathered-none s at) h
+
+-- a number of one byte is the number there
+single-picked : (t : Bool) (b at : ℕ) {v c : ℕ} → pick t (oneByte b (at + 1)) noByte ≡ oneByte v c → (t ≡ true) × (b ≡ v) × (at + 1 ≡ c)
+single-picked true b at h = (refl, cc, cc)
+single-picked false b at h = let z : _≡_ {A = ℕ} 0 1 = cc in absurd (omega arith)
+
+pub single-is : (s : List ℕ) (at : ℕ) {v c : ℕ} → single s at ≡ oneByte v c → unsigned s at ≡ got v c
+unfolding single
+single-is s at h =
+    let p = single-picked (ltb at (length s) && ltb (getD s at 0) 128) (getD s at 0) at h in
+    let t = and-eq-true-iff (ltb at (length s)) (ltb (getD s at 0) 128) .0 (p .0) in
+    sym (one s at (ltb-true at (length s) (t .0)) (ltb-true (getD s at 0) 128 (t .1))) ∙ ap₂ got (p .1) (p .2)
+
+module _ (s : List ℕ) (at : ℕ) where
+  pub single-got : at < length s → getD s at 0 < 128 → oneByte (getD s at 0) (at + 1) ≡ single s at
+  unfolding single
+  single-got h l = rw (lt-ltb at (length s) h, lt-ltb (getD s at 0) 128 l)
+
+  pub single-more : 128 ≤ getD s at 0 → noByte ≡ single s at
+  unfolding single
+  single-more h = rw (le-ltb (getD s at 0) 128 h, and-false (ltb at (length s)))
+
+  pub single-past : length s ≤ at → noByte ≡ single s at
+  unfolding single
+  single-past h = rw (le-ltb at (length s) h)

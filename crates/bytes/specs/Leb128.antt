@@ -3,10 +3,12 @@ use Prim.Native.Nat.{ℕ, _+_, _*_, _%_}
 use mathlib.Core.Bool.{_&&_}
 use mathlib.Core.List.{List, [], _∷_}
 use lib.Dec.{ltb, eqb}
-use lib.ListN.{drop}
+use lib.ListN.{length, getD, drop}
 use Rattle.bytes.specs.Read.{Read, got, andThen, pick}
 use Rattle.bytes.specs.Error.{refusal}
 use Rattle.bytes.specs.declared.error.Error.the-variants.{UnexpectedEof, BadUnsignedLeb128}
+use Rattle.bytes.specs.declared.leb128.OneByte.{OneByte as Code}
+use Rattle.bytes.specs.declared.leb128.OneByte.the-variants as code
 
 -- the low seven bits of a byte, below a number that was read after it
 abbrev pub below : ℕ → Read ℕ → Read ℕ
@@ -21,3 +23,15 @@ unsignedFrom k (b ∷ bs) at =
 
 unfoldable pub unsigned : List ℕ → ℕ → Read ℕ
 unsigned s at = unsignedFrom 0 (drop at s) at
+
+-- a number of one byte with the place after it, or none
+pub data Short : Type 0 where
+  oneByte : ℕ → ℕ → Short
+  noByte : Short
+
+unfoldable pub single : List ℕ → ℕ → Short
+single s at = pick (ltb at (length s) && ltb (getD s at 0) 128) (oneByte (getD s at 0) (at + 1)) noByte
+
+abbrev pub toldSingle : Code → Short
+toldSingle (code.Got v c) = oneByte v c
+toldSingle code.None = noByte

@@ -5,7 +5,7 @@ ghost use mathlib.Core.Path.{_≡_};
 ghost use Prim.Native.Nat.{_+_, _≤_, _<_};
 ghost use lib.ListN.{length, getD};
 ghost use Rattle.bytes.specs.Error.{told};
-ghost use Rattle.bytes.specs.Leb128.{unsigned as unsignedAt};
+ghost use Rattle.bytes.specs.Leb128.{unsigned as unsignedAt, toldSingle, single as singleAt};
 
 // The number from its second byte on, given the first, which another follows.
 fn unsigned_more(s: &[u8], at: usize) -> Num
@@ -55,4 +55,24 @@ pub fn unsigned(s: &[u8], at: usize) -> Num
         }
     }
     unsigned_more(s, at)
+}
+
+// A number of one byte with the place after it, or none.
+pub enum OneByte {
+    Got(u64, usize),
+    None,
+}
+
+// The number at a place where it has one byte: a caller for whom nearly all have one goes on from it without the places where
+// longer ones are put together.
+pub fn single(s: &[u8], at: usize) -> OneByte
+    ensures { λ r. ⌜ toldSingle r ≡ singleAt (now (s .entry)) at ⌝ }
+{
+    if at < s.len() {
+        let byte = s[at];
+        if byte < 128 {
+            return OneByte::Got(byte as u64, at + 1);
+        }
+    }
+    OneByte::None
 }

@@ -5,6 +5,7 @@ use bytes::Split;
 use bytes::common::Encoding;
 use bytes::endianity::RunTimeEndian;
 use bytes::error::Error;
+use bytes::leb128::OneByte;
 ghost use mathlib.Core.Path.{_≡_};
 ghost use Prim.Native.Nat.{_+_, _<_, _^_};
 ghost use lib.ListN.{length};
@@ -68,7 +69,7 @@ fn expression_bytes(part: &[u8], at: usize, len: u64, start: usize) -> Data
 }
 
 // An expression of a part that starts at a place of its section: its length, LEB128 or two bytes up to version 4, and as
-// many bytes. 1, 2. Most lengths have one byte, which needs no putting together.
+// many bytes. 1, 2. A length of one byte goes straight on to the expression's bytes.
 pub(crate) fn read_expression(
     part: &[u8],
     at: usize,
@@ -80,11 +81,8 @@ pub(crate) fn read_expression(
     ensures { λ r. ⌜ toldData r ≡ operand encoding endian start (now (part .entry)) expression at ⌝ }
 {
     if 5 <= encoding.version {
-        if at < part.len() {
-            let byte = part[at];
-            if byte < 128 {
-                return expression_bytes(part, at + 1, byte as u64, start);
-            }
+        if let OneByte::Got(len, c) = bytes::leb128::single(part, at) {
+            return expression_bytes(part, c, len, start);
         }
         let r = bytes::leb128::unsigned(part, at);
         let Num::Got(len, c) = r else {
