@@ -1,6 +1,4 @@
-// Reads, headers, tables, raw entries and sheets, for C and Rust.
+// Reads, headers, tables and sheets, for C and Rust.
 pub mod coverages;
 pub mod headers;
-pub mod locations;
-pub mod ranges;
 pub mod reads;

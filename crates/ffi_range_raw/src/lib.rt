@@ -1,4 +1,4 @@
-// Range lists.
+// Raw entries of range lists, and what they come to.
 use bytes::common::DebugAddrBase;
 use ffi_words::words::Words8;
 use lists::Walk;

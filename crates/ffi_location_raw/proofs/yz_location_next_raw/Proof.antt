@@ -5,8 +5,8 @@ use Rattle.lists.specs.Walk.{nextRawLocation}
 use Rattle.bytes.specs.declared.common.Encoding.{Encoding}
 use Rattle.bytes.specs.declared.endianity.RunTimeEndian.{RunTimeEndian}
 use borrow.Author.Needs.{needs}
-use Rattle.ffi.proofs.locations.yz_location_next_raw.Statement.{statement}
-use Rattle.ffi.proofs.locations.yz_location_next_raw.Tie as tie
+use Rattle.ffi_location_raw.proofs.yz_location_next_raw.Statement.{statement}
+use Rattle.ffi_location_raw.proofs.yz_location_next_raw.Tie as tie
 
 element-copy-out-at : tie.Need-element-copy-out-at
 element-copy-out-at c = search needs

@@ -1,10 +1,10 @@
 use mathlib.Core.Path.{ap, ap₂, _∙_}
-use Rattle.ffi_words.specs.ListWords.{locationOutcome, convertLocationWords}
+use Rattle.ffi_words.specs.ListWords.{rangeOutcome, convertRangeWords}
 use Rattle.bytes.specs.declared.common.Encoding.{Encoding}
 use Rattle.bytes.specs.declared.endianity.RunTimeEndian.{RunTimeEndian}
 use borrow.Author.Needs.{needs}
-use Rattle.ffi.proofs.locations.yz_location_convert_raw.Statement.{statement}
-use Rattle.ffi.proofs.locations.yz_location_convert_raw.Tie as tie
+use Rattle.ffi_range_raw.proofs.yz_range_convert_raw.Statement.{statement}
+use Rattle.ffi_range_raw.proofs.yz_range_convert_raw.Tie as tie
 
 element-copy-out-at : tie.Need-element-copy-out-at
 element-copy-out-at c = search needs
@@ -20,12 +20,6 @@ element-copy-out-first c = search needs
 
 element-copy-out-second : tie.Need-element-copy-out-second
 element-copy-out-second c = search needs
-
-element-copy-out-offset : tie.Need-element-copy-out-offset
-element-copy-out-offset c = search needs
-
-element-copy-out-len : tie.Need-element-copy-out-len
-element-copy-out-len c = search needs
 
 encoding-of-requires : tie.Need-encoding-of-requires
 encoding-of-requires c κs = search needs
@@ -44,13 +38,13 @@ write-eight-requires c κs = search needs
 
 returns : tie.Need-returns
 returns c =
-    let a = c .before .before .before .before .before .before .before .before .before .before .before .before .before .before .args in
+    let a = c .before .before .before .before .before .before .before .before .before .before .before .before .args in
     c .write-eight .ensures ∙ c .before .before .converted-words .ensures
-    ∙ ap locationOutcome (c .before .before .before .convert .ensures)
-    ∙ ap₂ (λ (p : Encoding) (e : RunTimeEndian). locationOutcome (convertLocationWords p e (a .debug-addr .now) (record { 0 = a .debug-addr-base }) (a .io .now))) (c .before .before .before .before .before .encoding-of .ensures) (c .before .before .before .before .endian-of .ensures)
+    ∙ ap rangeOutcome (c .before .before .before .convert .ensures)
+    ∙ ap₂ (λ (p : Encoding) (e : RunTimeEndian). rangeOutcome (convertRangeWords p e (a .debug-addr .now) (record { 0 = a .debug-addr-base }) (a .io .now))) (c .before .before .before .before .before .encoding-of .ensures) (c .before .before .before .before .endian-of .ensures)
 
-pub yz-location-convert-raw-spec : {M : Type 1} → statement M
-yz-location-convert-raw-spec =
+pub yz-range-convert-raw-spec : {M : Type 1} → statement M
+yz-range-convert-raw-spec =
     tie.close
     (tie.spec
     element-copy-out-at
@@ -58,8 +52,6 @@ yz-location-convert-raw-spec =
     element-copy-out-code
     element-copy-out-first
     element-copy-out-second
-    element-copy-out-offset
-    element-copy-out-len
     encoding-of-requires
     endian-of-requires
     convert-requires

@@ -1,4 +1,4 @@
-// Location lists, plain and split.
+// Raw entries of location lists, and what they come to.
 use bytes::common::DebugAddrBase;
 use entries::Expression;
 use ffi_words::words::Words8;
