@@ -8,7 +8,7 @@ use Rattle.bytes.specs.Error.{number, values, refusing}
 use Rattle.bytes.specs.declared.error.Error.the-variants.{BadSheet}
 use Rattle.coverage.specs.Ranges.{limit}
 use Rattle.coverage.specs.Kept.{rangesOf, lawfulSheet}
-use Rattle.coverage.specs.Canonical.{canonicalBytes, canonicalKept}
+use Rattle.canonical.specs.Canonical.{canonicalBytes, canonicalKept}
 use Rattle.coverage.specs.Output.{output, written}
 use Rattle.coverage.specs.Told.{toldWrote}
 use Rattle.coverage.specs.declared.Coverage.{Coverage}
@@ -16,7 +16,7 @@ use Rattle.coverage.specs.declared.Wrote.{Wrote}
 use Rattle.coverage.specs.declared.Wrote.the-variants as wrote
 use Rattle.coverage.proofs.Checked.{lawful-few, lawful-apart}
 use Rattle.coverage.proofs.OutputLaws.{written-refused, written-short}
-use Rattle.coverage.proofs.Sources.{kept-bytes}
+use Rattle.canonical.proofs.Sources.{kept-bytes}
 use Rattle.coverage.proofs.OutputLaws.{all-written}
 use Rattle.canonical.specs.Arrays.{Arrays, firsts}
 use Rattle.canonical.specs.Put.{Put}

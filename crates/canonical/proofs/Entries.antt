@@ -11,7 +11,7 @@ use lib.Seq.{sets, length-sets}
 use Rattle.bytes.specs.Read.{pick}
 use Rattle.coverage.specs.Ranges.{Range, From, limit}
 use Rattle.bytes.specs.Written.{littleBytes, unsignedBytes}
-use Rattle.coverage.specs.Canonical.{entryBytes, canonicalBytes}
+use Rattle.canonical.specs.Canonical.{entryBytes, canonicalBytes}
 use Rattle.coverage.proofs.KeptLaws.{next-range, no-range}
 use Rattle.bytes.proofs.WrittenLaws.{length-little}
 use Rattle.bytes.proofs.PutLaws.{sets-append, put-room}

@@ -1,3 +1,6 @@
+pub mod CanonicalLaws
+pub mod Sources
+pub mod Demand
 pub mod Unsigned
 pub mod Entries
 pub mod Answers

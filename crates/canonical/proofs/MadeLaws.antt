@@ -5,10 +5,10 @@ use Prim.Native.Nat.{ℕ}
 use Rattle.bytes.specs.Read.{Result, gives, refuses}
 use Rattle.coverage.specs.Ranges.{Range}
 use Rattle.coverage.specs.Covered.{Source, mapped, coverageOf, Bytes}
-use Rattle.coverage.specs.Canonical.{canonicalBytes, canonicalOf}
+use Rattle.canonical.specs.Canonical.{canonicalBytes, canonicalOf}
 use Rattle.coverage.specs.Output.{output, written}
 use Rattle.coverage.specs.Told.{Answer, made}
-use Rattle.coverage.proofs.Sources.{kept-canonical}
+use Rattle.canonical.proofs.Sources.{kept-canonical}
 use Rattle.canonical.specs.Made.{canonicalMade}
 
 by-coverage : (x : Source) (r : Result (List Range)) → Bytes x → coverageOf x ≡ r → canonicalMade (made r) ≡ canonicalOf x

@@ -2,7 +2,7 @@
 use mathlib.Core.List.{List}
 use Prim.Native.Nat.{ℕ}
 use Rattle.bytes.specs.Read.{Result, gives, refuses}
-use Rattle.coverage.specs.Canonical.{canonicalKept}
+use Rattle.canonical.specs.Canonical.{canonicalKept}
 use Rattle.coverage.specs.Told.{Answer}
 use Rattle.coverage.specs.declared.Coverage.{Coverage}
 

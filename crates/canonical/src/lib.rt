@@ -1,4 +1,5 @@
 // The canonical list of a coverage, written into lent bytes.
+pub mod back;
 pub mod of_list;
 
 use bytes::error::Error;
@@ -12,7 +13,7 @@ ghost use Prim.Native.Nat.{_+_, _≤_};
 ghost use lib.ListN.{length};
 ghost use lib.Seq.{sets};
 ghost use Rattle.bytes.specs.Written.{unsignedBytes};
-ghost use Rattle.coverage.specs.Canonical.{canonicalBytes, canonicalKept};
+ghost use Rattle.canonical.specs.Canonical.{canonicalBytes, canonicalKept};
 ghost use Rattle.coverage.specs.Output.{output, written};
 ghost use Rattle.coverage.specs.Told.{toldWrote};
 ghost use Rattle.canonical.specs.Arrays.{Arrays, firsts};

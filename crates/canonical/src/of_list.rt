@@ -8,7 +8,7 @@ use coverage::Made;
 use coverage::Verdict;
 use coverage::Wrote;
 ghost use mathlib.Core.Path.{_≡_};
-ghost use Rattle.coverage.specs.Canonical.{canonicalOf};
+ghost use Rattle.canonical.specs.Canonical.{canonicalOf};
 ghost use Rattle.coverage.specs.Covered.{rangeList, locationList, source};
 ghost use Rattle.coverage.specs.Output.{output, written};
 ghost use Rattle.coverage.specs.Told.{toldWrote, toldMade};

@@ -15,8 +15,8 @@ use Rattle.coverage.specs.Ranges.{insert, inserts}
 use Rattle.coverage.specs.Covered.{Source, rangeList, yieldedIn, traceOf, yieldedOf, coverageOf}
 use Rattle.coverage.specs.Kept.{lawfulFrom}
 use Rattle.bytes.specs.Written.{littleBytes, unsignedIn}
-use Rattle.coverage.specs.Sheet.{addressBytes, sheetBytes, addressesIn, isSheet, sheetRanges}
-use Rattle.coverage.specs.Canonical.{entryBytes, canonicalBytes, canonicalOf}
+use Rattle.sheets.specs.Sheet.{addressBytes, sheetBytes, addressesIn, isSheet, sheetRanges}
+use Rattle.canonical.specs.Canonical.{entryBytes, canonicalBytes, canonicalOf}
 
 -- ranges 0x20 to 0x30 and 0x10 to 0x20 of a list of address size 4
 list : Source

@@ -26,8 +26,8 @@ use Rattle.lists.specs.Walk.{Trace, item, over, gave, lost, next, nextRaw, conv
 use Rattle.coverage.specs.Covered.{source, rangeList, yieldedIn, yieldedOf, coverageOf}
 use Rattle.coverage.specs.Kept.{rangesOf, padded, keptAs, lawfulFrom, lawfulSheet}
 use Rattle.coverage.specs.Told.{made}
-use Rattle.coverage.specs.Sheet.{sheetKept}
-use Rattle.coverage.specs.Canonical.{canonicalOf, canonicalKept}
+use Rattle.sheets.specs.Sheet.{sheetKept}
+use Rattle.canonical.specs.Canonical.{canonicalOf, canonicalKept}
 use Rattle.coverage.specs.Output.{output, written}
 use Rattle.coverage.specs.declared.Coverage.{Coverage}
 

@@ -31,7 +31,7 @@ use Rattle.coverage.specs.declared.collect.Collected.{Collected}
 use Rattle.coverage.specs.declared.collect.Collected.the-variants as collected
 use Rattle.coverage.specs.declared.collect.Outcome.{Outcome}
 use Rattle.coverage.proofs.CallLaws.{after, gather-none, gather-more, gather-over, gather-lost, gather-many, coverage-opened}
-use Rattle.coverage.proofs.CanonicalLaws.{Small}
+use Rattle.coverage.proofs.Small.{Small}
 use Rattle.coverage.proofs.RangeLaws.{runs-apart}
 use Rattle.coverage.proofs.CoveredLaws.{Given, yielded-small, small-proper}
 use Rattle.coverage.proofs.SortLaws.{above-set}

@@ -13,7 +13,7 @@ use Rattle.bytes.specs.Address.{minTombstone}
 use Rattle.coverage.specs.Ranges.{Range, From, Apart, limit}
 use Rattle.coverage.specs.Kept.{paired, begins, ends, rangesOf, padded, keptAs, lawfulFrom, lawfulSheet}
 use Rattle.coverage.specs.declared.Coverage.{Coverage}
-use Rattle.coverage.proofs.CanonicalLaws.{All, Small}
+use Rattle.coverage.proofs.Small.{All, Small}
 
 -- ranges that make a lawful sheet: they keep apart, lie in their bounds, and are not too many
 pub record Lawful (rs : List Range) : Type 0 where

@@ -1,12 +1,9 @@
 pub mod RangeLaws
+pub mod Small
 pub mod SortLaws
-pub mod CanonicalLaws
 pub mod CoveredLaws
 pub mod KeptLaws
-pub mod SheetLaws
 pub mod OutputLaws
 pub mod CallLaws
 pub mod GatherLaws
-pub mod Sources
-pub mod Demand
 pub mod Checked

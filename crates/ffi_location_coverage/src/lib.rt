@@ -6,7 +6,7 @@ use ffi_words::words::Words4;
 ghost use mathlib.Core.Path.{_≡_};
 ghost use mathlib.Core.List.{_∷_};
 ghost use Rattle.coverage.specs.Covered.{locationList, source, coverageOf};
-ghost use Rattle.coverage.specs.Canonical.{canonicalOf};
+ghost use Rattle.canonical.specs.Canonical.{canonicalOf};
 ghost use Rattle.coverage.specs.Output.{written};
 ghost use Rattle.coverage.specs.Told.{made};
 ghost use Rattle.ffi_words.specs.Words.{endianOf, encodingOf};

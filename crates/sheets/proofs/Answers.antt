@@ -13,13 +13,13 @@ use Rattle.bytes.specs.Error.{number, values, refusing}
 use Rattle.bytes.specs.declared.error.Error.the-variants.{NoSpace, BadSheet}
 use Rattle.coverage.specs.Ranges.{limit}
 use Rattle.coverage.specs.Kept.{paired, begins, ends, rangesOf, padded, keptAs, lawfulFrom, lawfulSheet}
-use Rattle.coverage.specs.Sheet.{sheetBytes, sheetKept, addressesIn, countIn, widthIn, rangesIn, isSheet, sheetRanges}
+use Rattle.sheets.specs.Sheet.{sheetBytes, sheetKept, addressesIn, countIn, widthIn, rangesIn, isSheet, sheetRanges}
 use Rattle.coverage.specs.Output.{output, written}
 use Rattle.coverage.specs.Told.{answer, made}
 use Rattle.coverage.specs.declared.Coverage.{Coverage}
 use Rattle.coverage.proofs.Checked.{lawful-few}
 use Rattle.coverage.proofs.KeptLaws.{length-paired, begins-paired, ends-paired, sheet-test}
-use Rattle.coverage.proofs.SheetLaws.{sheet-kept, no-sheet-kept}
+use Rattle.sheets.proofs.SheetLaws.{sheet-kept, no-sheet-kept}
 use Rattle.coverage.proofs.OutputLaws.{written-refused, written-short}
 use Rattle.coverage.proofs.OutputLaws.{all-written}
 use Rattle.sheets.proofs.Putting.{take-paired, sheet-length}

@@ -10,7 +10,7 @@ use lib.Seq.{sets, sets-eq, drop-drop}
 use Rattle.bytes.specs.Endianity.{little}
 use Rattle.coverage.specs.Ranges.{limit}
 use Rattle.coverage.specs.Kept.{padded}
-use Rattle.coverage.specs.Sheet.{addressesIn}
+use Rattle.sheets.specs.Sheet.{addressesIn}
 
 abbrev zeros : ℕ → List ℕ
 zeros k = replicate k 0

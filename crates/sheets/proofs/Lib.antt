@@ -1,3 +1,4 @@
+pub mod SheetLaws
 pub mod Putting
 pub mod Reading
 pub mod Getting

@@ -12,9 +12,9 @@ use Rattle.bytes.specs.Read.{pick}
 use Rattle.coverage.specs.Ranges.{Range, limit}
 use Rattle.coverage.specs.Kept.{paired}
 use Rattle.bytes.specs.Written.{littleBytes}
-use Rattle.coverage.specs.Sheet.{addressBytes, sheetBytes}
+use Rattle.sheets.specs.Sheet.{addressBytes, sheetBytes}
 use Rattle.coverage.proofs.KeptLaws.{length-paired, begins-paired, ends-paired}
-use Rattle.coverage.proofs.SheetLaws.{length-addresses}
+use Rattle.sheets.proofs.SheetLaws.{length-addresses}
 use Rattle.bytes.proofs.WrittenLaws.{length-little}
 use Rattle.bytes.proofs.PutLaws.{sets-append, put-room}
 

@@ -19,7 +19,7 @@ ghost use Rattle.bytes.specs.Endianity.{little};
 ghost use Rattle.bytes.specs.Error.{refusing};
 ghost use Rattle.coverage.specs.Ranges.{limit};
 ghost use Rattle.coverage.specs.Kept.{paired, padded};
-ghost use Rattle.coverage.specs.Sheet.{addressBytes, sheetBytes, sheetKept, addressesIn, sheetRanges};
+ghost use Rattle.sheets.specs.Sheet.{addressBytes, sheetBytes, sheetKept, addressesIn, sheetRanges};
 ghost use Rattle.coverage.specs.Output.{output, written};
 ghost use Rattle.coverage.specs.Told.{toldWrote, toldMade, made};
 ghost use Rattle.sheets.specs.Judged.{Judged};

@@ -6,7 +6,7 @@ use coverage::Verdict;
 use libc::STDOUT_FILENO;
 ghost use mathlib.Core.Path.{_≡_};
 ghost use Rattle.show.specs.Show.{isGiven};
-ghost use Rattle.coverage.specs.Sheet.{sheetRanges};
+ghost use Rattle.sheets.specs.Sheet.{sheetRanges};
 
 // The bytes of a sheet of one range more than a coverage keeps, and one more: such a sheet is refused for its count, and a
 // longer input for its length, neither because it was cut.

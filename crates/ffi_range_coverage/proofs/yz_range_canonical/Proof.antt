@@ -1,6 +1,6 @@
 use mathlib.Core.Path.{ap, _∙_}
 use Rattle.coverage.specs.Covered.{Source, rangeList}
-use Rattle.coverage.specs.Canonical.{canonicalOf}
+use Rattle.canonical.specs.Canonical.{canonicalOf}
 use Rattle.coverage.specs.Output.{written}
 use Rattle.ffi_words.proofs.CoverageLaws.{same-source, filled-words}
 use borrow.Author.Needs.{needs}

@@ -1,5 +1,5 @@
 -- The verdict says whether the ranges are given. Assumes nothing.
-use Rattle.coverage.specs.Sheet.{sheetRanges}
+use Rattle.sheets.specs.Sheet.{sheetRanges}
 use Rattle.show.proofs.ShowLaws.{made-given, refused-not-given}
 use borrow.Author.Needs.{needs}
 use Rattle.show.proofs.show.Statement.{statement}

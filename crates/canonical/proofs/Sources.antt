@@ -11,15 +11,16 @@ use Rattle.bytes.specs.Read.{Result, gives, refuses, pick}
 use Rattle.bytes.specs.declared.common.DebugAddrBase.{DebugAddrBase}
 use Rattle.bytes.specs.declared.common.Format.{Format}
 use Rattle.bytes.specs.declared.common.Format.the-variants.{Dwarf32}
 use Rattle.coverage.specs.Ranges.{Range, Covers, limit, runs}
 use Rattle.coverage.specs.Covered.{mapped, Source, yieldedOf, coverageOf, CoveredBy, Bytes}
 use Rattle.coverage.specs.Kept.{rangesOf, keptAs, lawfulSheet}
-use Rattle.coverage.specs.Canonical.{canonicalBytes, canonicalOf, canonicalKept, readBack}
+use Rattle.canonical.specs.Canonical.{canonicalBytes, canonicalOf, canonicalKept, readBack}
 use Rattle.coverage.specs.declared.Coverage.{Coverage}
-use Rattle.coverage.proofs.CanonicalLaws.{Small, canonical-bytes}
+use Rattle.coverage.proofs.Small.{Small}
+use Rattle.canonical.proofs.CanonicalLaws.{canonical-bytes, canonical-yields}
 use Rattle.coverage.proofs.RangeLaws.{Same, unique, runs-length, runs-apart, runs-cover, runs-same, apart-proper}
-use Rattle.coverage.proofs.CoveredLaws.{yielded-small, yielded-few, small-proper, runs-small, canonical-yields}
+use Rattle.coverage.proofs.CoveredLaws.{yielded-small, yielded-few, small-proper, runs-small}
 use Rattle.coverage.proofs.KeptLaws.{Lawful, ranges-kept, kept-lawful}
 
 -- a coverage's ranges are the runs of those that were yielded
 pub mapped-gives : {A B : Type 0} (f : A → B) (r : Result A) {b : B} → mapped f r ≡ gives b → (a : A) × (r ≡ gives a) × (f a ≡ b)

@@ -7,12 +7,13 @@ use Prim.Native.Nat.{ℕ, zero, suc, _+_, _-_, _^_, _≤_, _<_}
 use native.Mathlib.Omega.{arith}
 use lib.ListN.{length, drop, getD, length-append, length-drop}
 use lib.Seq.{take-at, drop-drop, drop-append-seam}
-use borrow.Author.Tests.{lt-leb}
-use Rattle.bytes.specs.Read.{got, Result}
+use borrow.Author.Tests.{le-leb, lt-leb}
+use Rattle.bytes.specs.Read.{got, Result, gives}
 use Rattle.bytes.specs.Endianity.{little}
 use Rattle.bytes.specs.Reader.{uint, isSize, address}
 use Rattle.bytes.specs.Leb128.{unsigned}
 use Rattle.bytes.specs.Address.{addSized}
+use Rattle.bytes.specs.declared.common.DebugAddrBase.{DebugAddrBase}
 use Rattle.bytes.specs.declared.common.DebugAddrIndex.{DebugAddrIndex}
 use Rattle.bytes.specs.declared.common.Format.{Format}
 use Rattle.bytes.specs.declared.endianity.RunTimeEndian.the-variants.{Little}
@@ -22,25 +23,18 @@ use Rattle.entries.specs.Kinds.{rangeKinds, kindOf, coded, rangeEntry, moved, r
 use Rattle.entries.specs.declared.RawRngListEntry.the-variants.{StartLength}
 use Rattle.entries.proofs.KindLaws.{range-coded, raw-there}
 use Rattle.entries.proofs.EntryTook.{range-took}
-use Rattle.lists.specs.Open.{walkAt}
-use Rattle.lists.specs.Convert.{range, convert}
+use Rattle.lists.specs.Open.{walkAt, opened}
+use Rattle.lists.specs.Convert.{range, convert, tableAt}
 use Rattle.lists.specs.Walk.{ranges, item, Trace, over, gave, trace}
 use Rattle.lists.specs.Walks.{InBounds}
 use Rattle.lists.proofs.Local.{past}
 use Rattle.lists.proofs.WalkLaws.{Moved, met-entry, met-end}
-use Rattle.coverage.specs.Ranges.{Range}
+use Rattle.coverage.specs.Ranges.{Range, limit}
+use Rattle.coverage.specs.Covered.{mapped, yieldedIn, traceOf, yieldedOf}
+use Rattle.coverage.proofs.Small.{Small}
 use Rattle.bytes.specs.Written.{littleBytes, unsignedBytes}
-use Rattle.coverage.specs.Canonical.{entryBytes, canonicalBytes, canonicalEncoding}
+use Rattle.canonical.specs.Canonical.{entryBytes, canonicalBytes, canonicalEncoding, readBack}
 use Rattle.bytes.proofs.WrittenLaws.{length-little, little-back, unsigned-back, append-bytes, little-bytes, unsigned-bytes}
-
--- each range of a list has a property of its begin and end
-abbrev pub All : (ℕ → ℕ → Type 0) → List Range → Type 0
-All P [] = Unit
-All P (r ∷ rs) = P (r .0) (r .1) × All P rs
-
--- ranges of 64-bit addresses: begin below end and below 2^64 - 2, end at most 2^64 - 1
-abbrev pub Small : List Range → Type 0
-Small rs = All (InBounds 8) rs
 
 -- an entry's bytes with what follows them
 spread : Range → List ℕ → List ℕ
@@ -155,3 +149,18 @@ unfolding canonicalBytes
 canonical-bytes [] small zero = omega arith
 canonical-bytes [] small (suc i) = omega arith
 canonical-bytes (r ∷ rs) small i = append-bytes (entryBytes r) (canonicalBytes rs) (entry-bytes r (small .0)) (canonical-bytes rs (small .1)) i
+
+-- what a canonical list yields
+handed-yields : (room len base at : ℕ) (rs : List Range) → length rs ≤ room → yieldedIn room (handed len base at rs) ≡ gives rs
+unfolding yieldedIn
+handed-yields room len base at [] h = refl
+handed-yields zero len base at (r ∷ rs) h = absurd (omega arith)
+handed-yields (suc room) len base at (r ∷ rs) h = ap (mapped (λ qs. (r .0, r .1) ∷ qs)) (handed-yields room len base _ rs (omega arith))
+
+pub canonical-yields : (format : Format) (rs : List Range) → Small rs → length rs ≤ limit → (base : ℕ) (table : List ℕ) (tableBase : DebugAddrBase)
+    → yieldedOf (readBack format (canonicalBytes rs) base table tableBase) ≡ gives rs
+unfolding yieldedOf traceOf opened isSize
+canonical-yields format rs small few base table tableBase =
+    rw (le-leb 0 (length (canonicalBytes rs)) (omega arith))
+    (ap (yieldedIn limit) (walked-back format rs small (tableAt Little (canonicalEncoding format) tableBase table) base)
+    ∙ handed-yields limit (length (canonicalBytes rs)) base 0 rs few)

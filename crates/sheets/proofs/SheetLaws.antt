@@ -11,14 +11,14 @@ use lib.Seq.{length-take-le, take-at, drop-at, drop-drop, take-add, take-all, ge
 use borrow.Author.Tests.{le-leb, eq-eqb, leb-true, eqb-true}
 use Rattle.bytes.specs.Read.{gives, refuses, pick}
 use Rattle.bytes.specs.Endianity.{little}
 use Rattle.coverage.specs.Ranges.{Range, limit}
 use Rattle.coverage.specs.Kept.{paired, begins, ends, rangesOf, lawfulFrom, lawfulSheet}
 use Rattle.bytes.specs.Written.{littleBytes}
-use Rattle.coverage.specs.Sheet.{addressBytes, sheetBytes, sheetKept, addressesIn, countIn, widthIn, rangesIn, isSheet, sheetRanges}
+use Rattle.sheets.specs.Sheet.{addressBytes, sheetBytes, sheetKept, addressesIn, countIn, widthIn, rangesIn, isSheet, sheetRanges}
 use Rattle.coverage.specs.declared.Coverage.{Coverage}
-use Rattle.coverage.proofs.CanonicalLaws.{All, Small}
+use Rattle.coverage.proofs.Small.{All, Small}
 use Rattle.bytes.proofs.Order.{lt-or-le}
 use Rattle.coverage.proofs.KeptLaws.{Lawful, length-paired, begins-paired, ends-paired, paired-back, from-lawful, lawful-from, lawful-small}
 use Rattle.bytes.proofs.WrittenLaws.{length-little, little-back, little-written, little-lt, append-bytes, little-bytes}
 
 -- addresses of 64 bits
