@@ -18,7 +18,8 @@ use Rattle.coverage.proofs.Checked.{lawful-few, lawful-apart}
 use Rattle.coverage.proofs.OutputLaws.{written-refused, written-short}
 use Rattle.canonical.proofs.Sources.{kept-bytes}
 use Rattle.coverage.proofs.OutputLaws.{all-written}
-use Rattle.canonical.specs.Arrays.{Arrays, firsts}
+use Rattle.coverage.specs.Kept.{firsts}
+use Rattle.canonical.specs.Arrays.{Arrays}
 use Rattle.canonical.specs.Put.{Put}
 
 pub arrays : (c : Coverage) → lawfulSheet c ≡ true

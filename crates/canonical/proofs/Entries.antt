@@ -15,7 +15,8 @@ use Rattle.canonical.specs.Canonical.{entryBytes, canonicalBytes}
 use Rattle.coverage.proofs.KeptLaws.{next-range, no-range}
 use Rattle.bytes.proofs.WrittenLaws.{length-little}
 use Rattle.bytes.proofs.PutLaws.{sets-append, put-room}
-use Rattle.canonical.specs.Arrays.{Arrays, firsts}
+use Rattle.coverage.specs.Kept.{firsts}
+use Rattle.canonical.specs.Arrays.{Arrays}
 use Rattle.canonical.proofs.Unsigned.{unsigned-length}
 
 -- the bytes of a first range

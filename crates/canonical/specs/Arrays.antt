@@ -2,13 +2,9 @@
 use mathlib.Core.Path.{_≡_}
 use mathlib.Core.List.{List}
 use Prim.Native.Nat.{ℕ, _≤_}
-use lib.ListN.{length, take}
-use Rattle.coverage.specs.Ranges.{Range, Apart, limit}
-use Rattle.coverage.specs.Kept.{paired}
-
--- the first n ranges of begins and ends
-abbrev pub firsts : ℕ → List ℕ → List ℕ → List Range
-firsts n bs es = take n (paired bs es)
+use lib.ListN.{length}
+use Rattle.coverage.specs.Ranges.{Apart, limit}
+use Rattle.coverage.specs.Kept.{firsts}
 
 -- the first n ranges keep apart, and there are n
 pub record Arrays (n : ℕ) (bs es : List ℕ) : Type 0 where

@@ -16,7 +16,8 @@ ghost use Rattle.bytes.specs.Written.{unsignedBytes};
 ghost use Rattle.canonical.specs.Canonical.{canonicalBytes, canonicalKept};
 ghost use Rattle.coverage.specs.Output.{output, written};
 ghost use Rattle.coverage.specs.Told.{toldWrote};
-ghost use Rattle.canonical.specs.Arrays.{Arrays, firsts};
+ghost use Rattle.coverage.specs.Kept.{firsts};
+ghost use Rattle.canonical.specs.Arrays.{Arrays};
 ghost use Rattle.canonical.specs.Put.{Put};
 
 // How many bytes the shortest unsigned LEB128 form of x has.

@@ -6,10 +6,10 @@ use mathlib.Core.Logic.{⊎-elim}
 use Prim.Native.Nat.{ℕ, suc, _+_, _-_, _≤_, _<_}
 use native.Mathlib.Omega.{arith}
 use lib.Dec.{T}
-use lib.ListN.{length, take, drop, getD}
+use lib.ListN.{length, drop, getD}
 use Rattle.bytes.specs.Address.{minTombstone}
 use Rattle.coverage.specs.Ranges.{Range, Apart, limit}
-use Rattle.coverage.specs.Kept.{paired, rangesOf, lawfulFrom, lawfulSheet}
+use Rattle.coverage.specs.Kept.{firsts, rangesOf, lawfulFrom, lawfulSheet}
 use Rattle.coverage.specs.declared.Coverage.{Coverage}
 use Rattle.bytes.proofs.Order.{lt-or-le}
 use Rattle.coverage.proofs.KeptLaws.{next-range, no-range, lawful-first, not-above, not-proper, not-below, lawful-from, sheet-many, sheet-test}
@@ -18,7 +18,7 @@ pub record Checked (bs es : List ℕ) (n i last : ℕ) : Type 0 where
   pub lo : ℕ
   pub start : i ≡ 0 → lo ≡ 0
   pub next : 0 < i → lo ≡ suc last
-  pub same : lawfulFrom 0 (take n (paired bs es)) ≡ lawfulFrom lo (drop i (take n (paired bs es)))
+  pub same : lawfulFrom 0 (firsts n bs es) ≡ lawfulFrom lo (drop i (firsts n bs es))
   pub within : i ≤ n
   pub few : n ≤ limit
   pub lb : length bs ≡ limit
@@ -30,9 +30,9 @@ checked-start h k l =
 
 module _ {bs es : List ℕ} {n i last : ℕ} (t : Checked bs es n i last) where
   rest : List Range
-  rest = drop (i + 1) (take n (paired bs es))
+  rest = drop (i + 1) (firsts n bs es)
 
-  at-first : i < n → lawfulFrom 0 (take n (paired bs es)) ≡ lawfulFrom (t .lo) ((getD bs i 0, getD es i 0) ∷ rest)
+  at-first : i < n → lawfulFrom 0 (firsts n bs es) ≡ lawfulFrom (t .lo) ((getD bs i 0, getD es i 0) ∷ rest)
   unfolding rest
   at-first w = t .same ∙ ap (lawfulFrom (t .lo)) (next-range bs es n (t .few) (t .lb) (t .le) i w)
 
@@ -58,16 +58,16 @@ module _ {bs es : List ℕ} {n i last : ℕ} (t : Checked bs es n i last) where
           (λ p. let z : i ≡ 0 = omega arith in let e = t .start z in omega arith)
           (lt-or-le 0 i)
 
-  pub checked-low : i < n → 0 < i → getD bs i 0 ≤ last → false ≡ lawfulFrom 0 (take n (paired bs es))
+  pub checked-low : i < n → 0 < i → getD bs i 0 ≤ last → false ≡ lawfulFrom 0 (firsts n bs es)
   checked-low w p h = let e = t .next p in sym (at-first w ∙ not-above (t .lo) (getD bs i 0, getD es i 0) rest (omega arith))
 
-  pub checked-empty : i < n → getD es i 0 ≤ getD bs i 0 → false ≡ lawfulFrom 0 (take n (paired bs es))
+  pub checked-empty : i < n → getD es i 0 ≤ getD bs i 0 → false ≡ lawfulFrom 0 (firsts n bs es)
   checked-empty w h = sym (at-first w ∙ not-proper (t .lo) (getD bs i 0, getD es i 0) rest h)
 
-  pub checked-high : i < n → minTombstone 8 ≤ getD bs i 0 → false ≡ lawfulFrom 0 (take n (paired bs es))
+  pub checked-high : i < n → minTombstone 8 ≤ getD bs i 0 → false ≡ lawfulFrom 0 (firsts n bs es)
   checked-high w h = sym (at-first w ∙ not-below (t .lo) (getD bs i 0, getD es i 0) rest h)
 
-  pub checked-end : n ≤ i → true ≡ lawfulFrom 0 (take n (paired bs es))
+  pub checked-end : n ≤ i → true ≡ lawfulFrom 0 (firsts n bs es)
   unfolding lawfulFrom
   checked-end h = sym (t .same ∙ ap (lawfulFrom (t .lo)) (no-range bs es n (t .few) (t .lb) (t .le) i h))
 
@@ -77,6 +77,6 @@ module _ (c : Coverage) (law : lawfulSheet c ≡ true) where
   lawful-few =
       ⊎-elim (λ h. let e = sheet-many c h in let z : _≡_ {A = Bool} false true = cc in absurd (subst T (sym z) tt)) (λ h. h) (lt-or-le limit (c .n))
 
-  pub lawful-apart : Apart (take (c .n) (paired (c .begins) (c .ends)))
+  pub lawful-apart : Apart (firsts (c .n) (c .begins) (c .ends))
   unfolding rangesOf
   lawful-apart = lawful-from 0 (rangesOf c) (sym (sheet-test c lawful-few) ∙ law)

@@ -23,9 +23,9 @@ use Rattle.lists.specs.Walk.{Item, item, Trace, over, gave, lost, trace}
 use Rattle.lists.specs.declared.Walk.{Walk}
 use Rattle.coverage.specs.Ranges.{Range, Apart, limit, runs}
 use Rattle.coverage.specs.Covered.{mapped, yieldedIn, holding, Source, source, listed, traceOf, yieldedOf, coverageOf, Bytes}
-use Rattle.coverage.specs.Kept.{paired, padded, keptAs}
+use Rattle.coverage.specs.Kept.{paired, firsts, padded, keptAs}
 use Rattle.coverage.specs.Gathered.{Stored, Zeros, Blank, toldCollected, RunsApart, Asked, Gathered, toldOutcome}
-use Rattle.coverage.specs.Sorted.{Sized, SameFrom, first, ToRuns}
+use Rattle.coverage.specs.Sorted.{Sized, SameFrom, ToRuns}
 use Rattle.coverage.specs.Told.{Answer, answer, made}
 use Rattle.coverage.specs.declared.collect.Collected.{Collected}
 use Rattle.coverage.specs.declared.collect.Collected.the-variants as collected
@@ -35,7 +35,7 @@ use Rattle.coverage.proofs.Small.{Small}
 use Rattle.coverage.proofs.RangeLaws.{runs-apart}
 use Rattle.coverage.proofs.CoveredLaws.{Given, yielded-small, small-proper}
 use Rattle.coverage.proofs.SortLaws.{above-set}
-use Rattle.coverage.proofs.KeptLaws.{length-paired, begins-paired, ends-paired}
+use Rattle.coverage.proofs.KeptLaws.{take-paired, length-paired, begins-paired, ends-paired}
 
 paired-snoc : (bs es : List ℕ) (b e : ℕ) → length bs ≡ length es → paired (bs ++ (b ∷ [])) (es ++ (e ∷ [])) ≡ paired bs es ++ ((b, e) ∷ [])
 paired-snoc [] [] b e h = refl
@@ -92,7 +92,7 @@ zeros-more a n x z p l = above-set a n x p (omega arith) ∙ z p (omega arith)
 
 -- the ranges at the first n places, with those that the list has yet to yield, are all that it yields
 pub record Gathering {D : Type 0} (all : Result (List Range)) (t : Trace D) (bs es : List ℕ) (n : ℕ) : Type 0 where
-  pub same : after (first n bs es) (yieldedIn (limit - n) t) ≡ all
+  pub same : after (firsts n bs es) (yieldedIn (limit - n) t) ≡ all
   pub few : n ≤ limit
   pub sized : Sized bs es
   pub rest : Zeros bs n × Zeros es n
@@ -114,11 +114,14 @@ module _ {D : Type 0} {t : Trace D} {bs es : List ℕ} where
         let lb = g .sized .0 in
         let le = g .sized .1 in
         let k : length (take n bs) ≡ length (take n es) = omega (arith, length-take n bs, length-take n es) in
-        let p : first (n + 1) (set bs n b) (set es n e) ≡ first n bs es ++ ((b, e) ∷ []) =
+        let o : paired (take (n + 1) (set bs n b)) (take (n + 1) (set es n e)) ≡ paired (take n bs) (take n es) ++ ((b, e) ∷ []) =
         rw (add-one n, take-suc-set bs n b (omega arith), take-suc-set es n e (omega arith)) (paired-snoc (take n bs) (take n es) b e k)
         in
+        let p : firsts (n + 1) (set bs n b) (set es n e) ≡ firsts n bs es ++ ((b, e) ∷ []) =
+        take-paired (n + 1) (set bs n b) (set es n e) ∙ o ∙ ap (λ (l : List Range). l ++ ((b, e) ∷ [])) (sym (take-paired n bs es))
+        in
         record {
-          same = rw p (sym (gather-more t (first n bs es) (limit - (n + 1)) q) ∙ (rw r at (g .same)));
+          same = rw p (sym (gather-more t (firsts n bs es) (limit - (n + 1)) q) ∙ (rw r at (g .same)));
           few = omega arith;
           sized = (length-set bs n b ∙ lb, length-set es n e ∙ le);
           rest = (zeros-more bs n b (g .rest .0), zeros-more es n e (g .rest .1));
@@ -127,7 +130,7 @@ module _ {D : Type 0} {t : Trace D} {bs es : List ℕ} where
     many : {i : Item D} {w : Walk} {u : Trace D} → limit ≤ n → t ≡ gave i w u → Gathered all (collected.Refused TooManyRanges) bs es
     many h q =
         let r : limit - n ≡ 0 = omega arith in
-        record { told = sym (gather-many t (first n bs es) q) ∙ (rw r at (g .same)); few = tt; sized = g .sized; rest = tt }
+        record { told = sym (gather-many t (firsts n bs es) q) ∙ (rw r at (g .same)); few = tt; sized = g .sized; rest = tt }
 
     module _ {r : Bool} {b e : ℕ} {d : D} {w : Walk} {u : Trace D} {xs ys : List ℕ} (s : Stored r (b, e) n bs es xs ys) (q : t ≡ gave (item b e d) w u) where
       -- a range more, or no room for it
@@ -143,11 +146,11 @@ module _ {D : Type 0} {t : Trace D} {bs es : List ℕ} where
 
     pub gathering-over : {w : Walk} → t ≡ over w → Gathered all (collected.Got n) bs es
     gathering-over q =
-        record { told = sym (gather-over t (first n bs es) (limit - n) q) ∙ g .same; few = g .few; sized = g .sized; rest = g .rest }
+        record { told = sym (gather-over t (firsts n bs es) (limit - n) q) ∙ g .same; few = g .few; sized = g .sized; rest = g .rest }
 
     pub gathering-lost : {e : Error} {w : Walk} {u : Trace D} → t ≡ lost (number e) (values e) w u → Gathered all (collected.Refused e) bs es
     gathering-lost q =
-        record { told = sym (gather-lost t (first n bs es) (limit - n) q) ∙ g .same; few = tt; sized = g .sized; rest = tt }
+        record { told = sym (gather-lost t (firsts n bs es) (limit - n) q) ∙ g .same; few = tt; sized = g .sized; rest = tt }
 
 -- an array of which the places from r up to i are 0, as those from n on are
 pub record Clearing (a₀ : List ℕ) (r n : ℕ) (a : List ℕ) (i : ℕ) : Type 0 where
@@ -195,13 +198,13 @@ module _ {a₀ a : List ℕ} {r n i : ℕ} (t : Clearing a₀ r n a i) where
 
 -- two arrays cleared past their first n places keep the ranges there
 pub cleared-kept : (bs es : List ℕ) (n : ℕ) {xs ys : List ℕ} → n ≤ limit → Sized bs es → xs ≡ padded (take n bs) → ys ≡ padded (take n es)
-    → record { n = n; begins = xs; ends = ys } ≡ keptAs (first n bs es)
+    → record { n = n; begins = xs; ends = ys } ≡ keptAs (firsts n bs es)
 unfolding keptAs
 cleared-kept bs es n h s p q =
     let lb : length (take n bs) ≡ n = rw length-take (omega arith) in
     let le : length (take n es) ≡ n = rw length-take (omega arith) in
     let k = lb ∙ sym le in
-    rw (p, q, length-paired (take n bs) (take n es) k, begins-paired (take n bs) (take n es) k, ends-paired (take n bs) (take n es) k, lb)
+    rw (p, q, take-paired n bs es, length-paired (take n bs) (take n es) k, begins-paired (take n bs) (take n es) k, ends-paired (take n bs) (take n es) k, lb)
 
 -- arrays of zeros are those of an outcome that keeps nothing
 pub outcome-blank : (o : Outcome) (bs es : List ℕ) → Blank bs es → toldOutcome o bs es ≡ toldOutcome o (padded []) (padded [])
@@ -217,7 +220,7 @@ module _ (k : Collected) (bs es : List ℕ) {n : ℕ} (q : k ≡ collected.Got n
   got-few : n ≤ limit
   got-few = rw q at (asked .0)
 
-  pub got-asks : {xs ys : List ℕ} {r : ℕ} → ToRuns (first (min n limit) bs es) xs ys r → SameFrom (min n limit) bs es xs ys → (n ≤ limit) × Sized xs ys × Zeros xs n × Zeros ys n
+  pub got-asks : {xs ys : List ℕ} {r : ℕ} → ToRuns (firsts (min n limit) bs es) xs ys r → SameFrom (min n limit) bs es xs ys → (n ≤ limit) × Sized xs ys × Zeros xs n × Zeros ys n
   got-asks t s =
       let few = got-few in
       let z : Zeros bs n × Zeros es n = rw q at (asked .3) in (
@@ -227,11 +230,11 @@ module _ (k : Collected) (bs es : List ℕ) {n : ℕ} (q : k ≡ collected.Got n
         λ p l. s p (omega arith) .1 ∙ z .1 p l,
       )
 
-  pub covered-got : {xs ys zs ws : List ℕ} {r : ℕ} → ToRuns (first (min n limit) bs es) xs ys r → zs ≡ padded (take r xs) → ws ≡ padded (take r ys)
+  pub covered-got : {xs ys zs ws : List ℕ} {r : ℕ} → ToRuns (firsts (min n limit) bs es) xs ys r → zs ≡ padded (take r xs) → ws ≡ padded (take r ys)
       → answer (gives tt) (record { n = r; begins = zs; ends = ws }) ≡ made (mapped runs (toldCollected k bs es))
   covered-got {xs} {ys} {r = r} t e f =
       let few = got-few in
-      let apart : Apart (runs (first n bs es)) = rw q at (asked .2) in
+      let apart : Apart (runs (firsts n bs es)) = rw q at (asked .2) in
       let m : min n limit ≡ n = omega arith in
       let x = t .exact (rw m apart) in
       rw q (ap (answer (gives tt)) (cleared-kept xs ys r (t .few) (t .sized) e f ∙ ap keptAs (rw m at x)))

@@ -11,7 +11,7 @@ use lib.Seq.{drop-cons, getD-take, take-append-seam}
 use borrow.Author.Tests.{le-leb, lt-leb, lt-ltb, le-ltb, leb-true, ltb-true}
 use Rattle.bytes.specs.Address.{minTombstone}
 use Rattle.coverage.specs.Ranges.{Range, From, Apart, limit}
-use Rattle.coverage.specs.Kept.{paired, begins, ends, rangesOf, padded, keptAs, lawfulFrom, lawfulSheet}
+use Rattle.coverage.specs.Kept.{paired, firsts, begins, ends, rangesOf, padded, keptAs, lawfulFrom, lawfulSheet}
 use Rattle.coverage.specs.declared.Coverage.{Coverage}
 use Rattle.coverage.proofs.Small.{All, Small}
 
@@ -20,6 +20,13 @@ pub record Lawful (rs : List Range) : Type 0 where
   pub apart : Apart rs
   pub small : Small rs
   pub few : length rs ≤ limit
+
+-- the first ranges are those of the first begins and ends
+pub take-paired : (n : ℕ) (bs es : List ℕ) → firsts n bs es ≡ paired (take n bs) (take n es)
+take-paired zero bs es = refl
+take-paired (suc n) [] es = refl
+take-paired (suc n) (b ∷ bs) [] = refl
+take-paired (suc n) (b ∷ bs) (e ∷ es) = ap (λ (l : List Range). (b, e) ∷ l) (take-paired n bs es)
 
 -- begins and ends read in order
 pub length-paired : (bs es : List ℕ) → length bs ≡ length es → length (paired bs es) ≡ length bs
@@ -34,19 +41,19 @@ getD-paired (b ∷ bs) (e ∷ es) zero h k = refl
 getD-paired (b ∷ bs) (e ∷ es) (suc i) h k = getD-paired bs es i (omega arith) (omega arith)
 
 module _ (bs es : List ℕ) (n : ℕ) (fits : n ≤ limit) (lb : length bs ≡ limit) (le : length es ≡ limit) where
-  pub length-ranges : length (take n (paired bs es)) ≡ n
+  pub length-ranges : length (firsts n bs es) ≡ n
   length-ranges = let z = length-paired bs es (lb ∙ sym le) in rw length-take (omega arith)
 
   -- the range at a place, and those after it
-  pub next-range : (i : ℕ) → i < n → drop i (take n (paired bs es)) ≡ (getD bs i 0, getD es i 0) ∷ drop (i + 1) (take n (paired bs es))
+  pub next-range : (i : ℕ) → i < n → drop i (firsts n bs es) ≡ (getD bs i 0, getD es i 0) ∷ drop (i + 1) (firsts n bs es)
   next-range i h =
       let l = length-ranges in
-      let k : i < length (take n (paired bs es)) = omega arith in
-      drop-cons (take n (paired bs es)) i (0, 0) k
+      let k : i < length (firsts n bs es) = omega arith in
+      drop-cons (firsts n bs es) i (0, 0) k
       ∙ ap₂ _∷_ (getD-take n (paired bs es) i (0, 0) h ∙ getD-paired bs es i (omega arith) (omega arith)) (rw add-one)
 
-  pub no-range : (i : ℕ) → n ≤ i → drop i (take n (paired bs es)) ≡ []
-  no-range i h = let l = length-ranges in drop-of-length-le (take n (paired bs es)) {i = i} (omega arith)
+  pub no-range : (i : ℕ) → n ≤ i → drop i (firsts n bs es) ≡ []
+  no-range i h = let l = length-ranges in drop-of-length-le (firsts n bs es) {i = i} (omega arith)
 
 -- what is kept is read back
 pub paired-append : (rs : List Range) (xs ys : List ℕ) → paired (begins rs ++ xs) (ends rs ++ ys) ≡ rs ++ paired xs ys
@@ -123,7 +130,7 @@ lawful-small lo (r ∷ rs) e k =
     let p = first-lawful lo r rs e in ((p .1, p .2, omega (arith, k .0)), lawful-small (suc (r .1)) rs (p .3) (k .1))
 
 -- a coverage
-paired-ends : (P : ℕ → Type 0) (n : ℕ) (bs es : List ℕ) → ((i : ℕ) → P (getD es i 0)) → All (λ b e. P e) (take n (paired bs es))
+paired-ends : (P : ℕ → Type 0) (n : ℕ) (bs es : List ℕ) → ((i : ℕ) → P (getD es i 0)) → All (λ b e. P e) (firsts n bs es)
 paired-ends P zero bs es h = tt
 paired-ends P (suc n) [] es h = tt
 paired-ends P (suc n) (b ∷ bs) [] h = tt

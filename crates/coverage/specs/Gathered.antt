@@ -7,7 +7,8 @@ use lib.ListN.{set, getD, replicate}
 use Rattle.bytes.specs.Read.{Result, gives, refuses}
 use Rattle.bytes.specs.Error.{refusing}
 use Rattle.coverage.specs.Ranges.{Range, Apart, limit, runs}
-use Rattle.coverage.specs.Sorted.{Sized, first}
+use Rattle.coverage.specs.Kept.{firsts}
+use Rattle.coverage.specs.Sorted.{Sized}
 use Rattle.coverage.specs.Told.{Answer, answer, toldVerdict}
 use Rattle.coverage.specs.declared.collect.Outcome.{Outcome}
 use Rattle.coverage.specs.declared.collect.Collected.{Collected}
@@ -28,7 +29,7 @@ Blank bs es = (bs ≡ replicate limit 0) × (es ≡ replicate limit 0)
 
 -- as many ranges as were counted, from the front of two arrays, or the refusal
 abbrev pub toldCollected : Collected → List ℕ → List ℕ → Result (List Range)
-toldCollected (collected.Got n) bs es = gives (first n bs es)
+toldCollected (collected.Got n) bs es = gives (firsts n bs es)
 toldCollected (collected.Refused e) bs es = refusing e
 
 -- no more than there is room for

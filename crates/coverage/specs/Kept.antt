@@ -21,9 +21,13 @@ begins rs = map (λ (r : Range). r .0) rs
 abbrev pub ends : List Range → List ℕ
 ends rs = map (λ (r : Range). r .1) rs
 
+-- the first n ranges of begins and ends
+abbrev pub firsts : ℕ → List ℕ → List ℕ → List Range
+firsts n bs es = take n (paired bs es)
+
 -- the ranges of a coverage: as many as it counts; places past the count are not read (document 01, "Coverage")
 unfoldable pub rangesOf : Coverage → List Range
-rangesOf c = take (c .n) (paired (c .begins) (c .ends))
+rangesOf c = firsts (c .n) (c .begins) (c .ends)
 
 -- numbers, and 0 at the places past them
 unfoldable pub padded : List ℕ → List ℕ

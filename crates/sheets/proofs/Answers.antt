@@ -18,11 +18,11 @@ use Rattle.coverage.specs.Output.{output, written}
 use Rattle.coverage.specs.Told.{answer, made}
 use Rattle.coverage.specs.declared.Coverage.{Coverage}
 use Rattle.coverage.proofs.Checked.{lawful-few}
-use Rattle.coverage.proofs.KeptLaws.{length-paired, begins-paired, ends-paired, sheet-test}
+use Rattle.coverage.proofs.KeptLaws.{take-paired, length-paired, begins-paired, ends-paired, sheet-test}
 use Rattle.sheets.proofs.SheetLaws.{sheet-kept, no-sheet-kept}
 use Rattle.coverage.proofs.OutputLaws.{written-refused, written-short}
 use Rattle.coverage.proofs.OutputLaws.{all-written}
-use Rattle.sheets.proofs.Putting.{take-paired, sheet-length}
+use Rattle.sheets.proofs.Putting.{sheet-length}
 use Rattle.sheets.proofs.Getting.{length-in}
 
 -- what the sheet call writes is the sheet of the coverage handed in, or it is refused

@@ -1,19 +1,19 @@
 -- Addresses written one after another: those still to be written, over the bytes that stand there now, are the same all along.
 -- Assumes nothing.
 use mathlib.Core.Path.{_≡_, refl, sym, ap, ap₂, _∙_}
-use mathlib.Core.List.{List, [], _∷_, _++_}
-use Prim.Native.Nat.{ℕ, zero, suc, _+_, _*_, _/_, _%_, _≤_, _<_}
+use mathlib.Core.List.{List, _∷_, _++_}
+use Prim.Native.Nat.{ℕ, _+_, _*_, _/_, _%_, _≤_, _<_}
 use native.Mathlib.Numerals.{add-one}
 use native.Mathlib.Omega.{arith}
 use lib.Dec.{leb}
 use lib.ListN.{length, take, drop, getD, set, length-append, drop-of-length-le}
 use lib.Seq.{sets, length-sets, drop-cons, getD-take, length-take-le}
 use Rattle.bytes.specs.Read.{pick}
-use Rattle.coverage.specs.Ranges.{Range, limit}
-use Rattle.coverage.specs.Kept.{paired}
+use Rattle.coverage.specs.Ranges.{limit}
+use Rattle.coverage.specs.Kept.{firsts}
 use Rattle.bytes.specs.Written.{littleBytes}
 use Rattle.sheets.specs.Sheet.{addressBytes, sheetBytes}
-use Rattle.coverage.proofs.KeptLaws.{length-paired, begins-paired, ends-paired}
+use Rattle.coverage.proofs.KeptLaws.{take-paired, length-paired, begins-paired, ends-paired}
 use Rattle.sheets.proofs.SheetLaws.{length-addresses}
 use Rattle.bytes.proofs.WrittenLaws.{length-little}
 use Rattle.bytes.proofs.PutLaws.{sets-append, put-room}
@@ -71,12 +71,6 @@ module _ {l₀ : List ℕ} {at n : ℕ} {xs l : List ℕ} {i p : ℕ} (t : Putti
   putting-end h = rw (drop-of-length-le (take n xs) {i = i} (omega (arith, count))) at (t .same)
 
 -- the first ranges are those of the first begins and ends
-pub take-paired : (n : ℕ) (bs es : List ℕ) → take n (paired bs es) ≡ paired (take n bs) (take n es)
-take-paired zero bs es = refl
-take-paired (suc n) [] es = refl
-take-paired (suc n) (b ∷ bs) [] = refl
-take-paired (suc n) (b ∷ bs) (e ∷ es) = ap (λ (l : List Range). (b, e) ∷ l) (take-paired n bs es)
-
 -- a sheet's bytes: its head, then both rows of addresses
 module _ (bs es : List ℕ) (n : ℕ) (few : n ≤ limit) (lb : length bs ≡ limit) (le : length es ≡ limit) where
   pub taken-begins : length (take n bs) ≡ n
@@ -85,19 +79,19 @@ module _ (bs es : List ℕ) (n : ℕ) (few : n ≤ limit) (lb : length bs ≡ li
   pub taken-ends : length (take n es) ≡ n
   taken-ends = length-take-le n es (omega arith)
 
-  sheet-spread : sheetBytes (take n (paired bs es)) ≡ n % 256 ∷ n / 256 % 256 ∷ 8 ∷ 0 ∷ (addressBytes (take n bs) ++ addressBytes (take n es))
+  sheet-spread : sheetBytes (firsts n bs es) ≡ n % 256 ∷ n / 256 % 256 ∷ 8 ∷ 0 ∷ (addressBytes (take n bs) ++ addressBytes (take n es))
   unfolding sheetBytes littleBytes
   sheet-spread =
       let k : length (take n bs) ≡ length (take n es) = taken-begins ∙ sym taken-ends in
       rw (take-paired n bs es, begins-paired (take n bs) (take n es) k, ends-paired (take n bs) (take n es) k)
       (rw (length-paired (take n bs) (take n es) k, taken-begins))
 
-  pub sheet-length : length (sheetBytes (take n (paired bs es))) ≡ 4 + 16 * n
+  pub sheet-length : length (sheetBytes (firsts n bs es)) ≡ 4 + 16 * n
   sheet-length =
       rw (sheet-spread, length-append, length-addresses (take n bs), length-addresses (take n es), taken-begins, taken-ends) (omega arith)
 
   pub sheet-put : (l : List ℕ) {l₁ l₂ : List ℕ}
       → l₁ ≡ sets (set (set (set (set l 0 (n % 256)) 1 (n / 256 % 256)) 2 8) 3 0) 4 (addressBytes (take n bs))
       → l₂ ≡ sets l₁ (4 + 8 * n) (addressBytes (take n es))
-      → l₂ ≡ sets l 0 (sheetBytes (take n (paired bs es)))
+      → l₂ ≡ sets l 0 (sheetBytes (firsts n bs es))
   sheet-put l p q = rw (sheet-spread, sets-append, length-addresses, taken-begins, q, p)

@@ -1,12 +1,13 @@
 -- Whether a coverage has its sheet in an output.
 use mathlib.Core.Bool.{Bool, true, false}
 use mathlib.Core.Path.{_≡_}
-use Prim.Native.Nat.{ℕ, _+_, _*_, _≤_, _<_}
+use Prim.Native.Nat.{ℕ, _≤_, _<_}
+use Rattle.sheets.specs.Sheet.{sheetLength}
 use Rattle.sheets.specs.declared.Judgement.{Judgement}
 use Rattle.sheets.specs.declared.Judgement.the-variants.{BadSheet, NoSpace, Fits}
 
 -- of a coverage that is lawful or not, its count and the room: 12 where it is not, 11 only where it is (document 01, "Coverage")
 abbrev pub Judged : Bool → ℕ → ℕ → Judgement → Type 0
 Judged lawful n room BadSheet = lawful ≡ false
-Judged lawful n room NoSpace = (lawful ≡ true) × (room < 4 + 16 * n)
-Judged lawful n room Fits = (lawful ≡ true) × (4 + 16 * n ≤ room)
+Judged lawful n room NoSpace = (lawful ≡ true) × (room < sheetLength n)
+Judged lawful n room Fits = (lawful ≡ true) × (sheetLength n ≤ room)

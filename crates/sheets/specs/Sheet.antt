@@ -42,9 +42,13 @@ widthIn bs = little (take 2 (drop 2 bs))
 abbrev pub rangesIn : ℕ → List ℕ → List Range
 rangesIn n bs = paired (addressesIn n (drop 4 bs)) (addressesIn n (drop (4 + 8 * n) bs))
 
+-- how many bytes the sheet of n ranges has (document 01, refusal 12)
+abbrev pub sheetLength : ℕ → ℕ
+sheetLength n = 4 + 16 * n
+
 -- whether bytes are a sheet that counts n: its count, width and length, and its ranges (document 01, refusal 12)
 unfoldable pub isSheet : ℕ → List ℕ → Bool
-isSheet n bs = leb n limit && eqb (widthIn bs) 8 && eqb (length bs) (4 + 16 * n) && lawfulFrom 0 (rangesIn n bs)
+isSheet n bs = leb n limit && eqb (widthIn bs) 8 && eqb (length bs) (sheetLength n) && lawfulFrom 0 (rangesIn n bs)
 
 -- the ranges of a sheet; what is no sheet is refused (document 01, refusal 12)
 unfoldable pub sheetRanges : List ℕ → Result (List Range)

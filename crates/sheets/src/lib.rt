@@ -18,7 +18,7 @@ ghost use lib.Seq.{sets};
 ghost use Rattle.bytes.specs.Endianity.{little};
 ghost use Rattle.bytes.specs.Error.{refusing};
 ghost use Rattle.coverage.specs.Ranges.{limit};
-ghost use Rattle.coverage.specs.Kept.{paired, padded};
+ghost use Rattle.coverage.specs.Kept.{firsts, padded};
 ghost use Rattle.sheets.specs.Sheet.{addressBytes, sheetBytes, sheetKept, addressesIn, sheetRanges};
 ghost use Rattle.coverage.specs.Output.{output, written};
 ghost use Rattle.coverage.specs.Told.{toldWrote, toldMade, made};
@@ -48,7 +48,7 @@ fn put_addresses(out: &mut [u8], at: usize, n: usize, addresses: &[u64; LIMIT])
 // The sheet of the first n ranges, from the output's begin on.
 fn write(n: usize, begins: &[u64; LIMIT], ends: &[u64; LIMIT], out: &mut [u8])
     requires { ⌜ (n ≤ limit) × (length (now begins) ≡ limit) × (length (now ends) ≡ limit) × (4 + 16 * n ≤ length (now out)) ⌝ }
-    ensures { λ _. ⌜ now (out .exit) ≡ sets (now (out .entry)) 0 (sheetBytes (take n (paired (now (begins .entry)) (now (ends .entry))))) ⌝ }
+    ensures { λ _. ⌜ now (out .exit) ≡ sets (now (out .entry)) 0 (sheetBytes (firsts n (now (begins .entry)) (now (ends .entry)))) ⌝ }
 {
     out[0] = (n % 256) as u8;
     out[1] = (n / 256 % 256) as u8;
