@@ -22,7 +22,7 @@ use Rattle.tables.specs.Addr.{addressAt, addrHeader, headersAt, nextHeader, ent
 use Rattle.tables.specs.declared.addr.AddrHeader.{AddrHeader}
 use Rattle.tables.specs.declared.addr.AddrHeaderIter.{AddrHeaderIter}
 use Rattle.tables.specs.declared.addr.AddrEntryIter.{AddrEntryIter}
-use Rattle.entries.specs.Forms.{byVersion, block}
+use Rattle.entries.specs.Forms.{versionedLength, block}
 use Rattle.entries.specs.Kinds.{rangeKinds, locationKinds, kindOf, coded, ofPair, bare, rangeEntry, locationEntry, rawAt}
 use Rattle.entries.specs.declared.Expression.{Expression}
 use Rattle.lists.specs.Convert.{convert, tableAt}
@@ -53,7 +53,7 @@ range version size s offset base = rangesIn table 8 version size s offset base
 
 location : Bool → ℕ → ℕ → List ℕ → ℕ → ℕ → Result (Trace Expression)
 unfolding
-    opened trace traceFrom convert addressAt rowAt locationEntry rawAt coded bare ofPair kindOf locationKinds byVersion block split address skip uint isSize little unsigned unsignedFrom
+    opened trace traceFrom convert addressAt rowAt locationEntry rawAt coded bare ofPair kindOf locationKinds versionedLength block split address skip uint isSize little unsigned unsignedFrom
 location dwo version size s offset base =
     from (opened (enc version size) s offset base)
     (trace (locations dwo (enc version size) Little s) (tableAt Little (enc version size) (record { 0 = 8 }) table) size (length s))

@@ -57,22 +57,22 @@ pub record Source : Type 0 where
 
 -- the same from its parts
 abbrev pub source : Holds → Encoding → RunTimeEndian → List ℕ → ℕ → ℕ → List ℕ → DebugAddrBase → Source
-source holds p endian s offset base table tableBase =
+source holds encoding endian s offset base table tableBase =
     record {
       section = s;
       table = table;
       offset = offset;
       «base_address» = base;
       «table_base» = tableBase;
-      encoding = p;
+      encoding = encoding;
       endian = endian;
       holds = holds;
     }
 
 -- how a list's entries are read
 abbrev pub listed : Holds → Encoding → RunTimeEndian → List ℕ → Listing
-listed rangeList p endian s = ranges p endian s
-listed (locationList split) p endian s = locations split p endian s
+listed rangeList encoding endian s = ranges encoding endian s
+listed (locationList split) encoding endian s = locations split encoding endian s
 
 -- what a list does from a walk on
 unfoldable pub traceOf : (x : Source) → Walk → Trace (listed (x .holds) (x .encoding) (x .endian) (x .section) .Carried)

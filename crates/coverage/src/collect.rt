@@ -12,7 +12,7 @@ use bytes::error::Error;
 use lists::Opened;
 use lists::Range;
 use lists::Walk;
-use lists::loclists::LocAnswer;
+use lists::loclists::LocationAnswer;
 ghost use mathlib.Core.Path.{_≡_};
 ghost use mathlib.Core.Bool.{true};
 ghost use Prim.Native.Nat.{_≤_};
@@ -85,7 +85,7 @@ fn gather(
             locations,
             split,
         ) {
-            LocAnswer::Location(location, after) => {
+            LocationAnswer::Location(location, after) => {
                 let range = location.range;
                 if store(range, n, begins, ends) {
                     n += 1;
@@ -94,10 +94,10 @@ fn gather(
                     return Collected::Refused(Error::TooManyRanges);
                 }
             }
-            LocAnswer::End(_) => {
+            LocationAnswer::End(_) => {
                 return Collected::Got(n);
             }
-            LocAnswer::Refused(e, _) => {
+            LocationAnswer::Refused(e, _) => {
                 return Collected::Refused(e);
             }
         }

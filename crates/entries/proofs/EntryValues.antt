@@ -26,7 +26,7 @@ use Rattle.entries.specs.declared.RawRngListEntry.{RawRngListEntry}
 use Rattle.entries.specs.declared.RawRngListEntry.the-variants as rng
 use Rattle.entries.specs.declared.RawLocListEntry.{RawLocListEntry}
 use Rattle.entries.specs.declared.RawLocListEntry.the-variants as loc
-use Rattle.entries.specs.Forms.{Form, index, number, span, address, expression, Value, byVersion, block, operand, Takes, Raw, stop, entry, operands}
+use Rattle.entries.specs.Forms.{Form, index, number, rangeLength, address, expression, Value, versionedLength, block, operand, Takes, Raw, stop, entry, operands}
 use Rattle.entries.specs.Kinds.{Kind, endOfList, unknown, kind, Row, row, rangeKinds, locationKinds, kindOf, ofKind, coded, isEnd, ofPair, bare, rangeEntry, locationEntry, moved, rawAt, rawRange, rawLocation}
 
 -- of what is read, if anything is
@@ -47,7 +47,7 @@ then-gives P Q (refused n vs) f h k = tt
 abbrev pub Small : ℕ → ℕ → (f : Form) → Value f → Type 0
 Small size len index i = i .0 < 2 ^ 64
 Small size len number v = v < 2 ^ 64
-Small size len span v = v < 2 ^ 64
+Small size len rangeLength v = v < 2 ^ 64
 Small size len address a = a < 2 ^ (8 * size)
 Small size len expression x = x .offset + x .len ≤ len
 
@@ -73,8 +73,8 @@ module _ (p : Encoding) (endian : RunTimeEndian) (start : ℕ) (s : List ℕ) (b
   number-small : (at : ℕ) → Gives (λ v. v < 2 ^ 64) (unsigned s at)
   number-small at = gives-all _ (unsigned s at) (λ v c e. unsigned-lt s at e)
 
-  version-small : (k at : ℕ) → 2 ^ (8 * k) ≤ 2 ^ 64 → Gives (λ v. v < 2 ^ 64) (byVersion k p endian s at)
-  unfolding byVersion
+  version-small : (k at : ℕ) → 2 ^ (8 * k) ≤ 2 ^ 64 → Gives (λ v. v < 2 ^ 64) (versionedLength k p endian s at)
+  unfolding versionedLength
   version-small k at h =
       pick-ind (Gives (λ v. v < 2 ^ 64)) (leb 5 (p .version)) (λ _. number-small at)
       (λ _. gives-all _ (uint endian k s at) (λ v c e. omega (arith, uint-lt endian k s at bytes e)))
@@ -89,9 +89,9 @@ module _ (p : Encoding) (endian : RunTimeEndian) (start : ℕ) (s : List ℕ) (b
   pub operand-small : (f : Form) (at : ℕ) → Gives (Small (p .«address_size») (start + length s) f) (operand p endian start s f at)
   operand-small index at = then-gives _ _ (unsigned s at) _ (number-small at) (λ v c h. h)
   operand-small number at = number-small at
-  operand-small span at = version-small 4 at (omega arith)
+  operand-small rangeLength at = version-small 4 at (omega arith)
   operand-small address at = gives-all _ (addressAt endian (p .«address_size») s at) (λ v c e. address-lt endian (p .«address_size») s at bytes e)
-  operand-small expression at = then-gives (λ _. Unit) _ (byVersion 2 p endian s at) (block start s) (gives-all _ (byVersion 2 p endian s at) (λ _ _ _. tt)) (λ n c _. block-small n c)
+  operand-small expression at = then-gives (λ _. Unit) _ (versionedLength 2 p endian s at) (block start s) (gives-all _ (versionedLength 2 p endian s at) (λ _ _ _. tt)) (λ n c _. block-small n c)
 
   module _ (E : Type 0) (P : E → Type 0) where
     pub operands-meet : (fs : List Form) (e : Takes fs E) (at : ℕ) → Meets (p .«address_size») (start + length s) P fs e

@@ -19,15 +19,15 @@ use Rattle.bytes.specs.declared.Num.{Num}
 use Rattle.bytes.specs.declared.Num.the-variants as num
 use Rattle.bytes.proofs.Took.{Took}
 use Rattle.entries.specs.declared.Expression.{Expression}
-use Rattle.entries.specs.declared.operands.Data.{Data}
-use Rattle.entries.specs.declared.operands.Data.the-variants as parsed
+use Rattle.entries.specs.declared.operands.ExpressionAnswer.{ExpressionAnswer}
+use Rattle.entries.specs.declared.operands.ExpressionAnswer.the-variants as parsed
 use Rattle.entries.specs.declared.RawRngListEntry.{RawRngListEntry}
 use Rattle.entries.specs.declared.RawLocListEntry.{RawLocListEntry}
 use Rattle.entries.specs.declared.raw.Head.{Head}
 use Rattle.entries.specs.declared.raw.Head.the-variants as head
 use Rattle.entries.specs.Forms.{expression, addrIndex, indexed, operand, operands, Raw, stop, entry}
 use Rattle.entries.specs.Kinds.{unknown, locationKinds, kindOf, ofKind, codedLocation, rangeEntry, locationEntry, moved}
-use Rattle.entries.specs.Told.{Step, found, ended, failed, stepOf, toldData}
+use Rattle.entries.specs.Told.{Step, found, ended, failed, stepOf, toldExpression}
 use Rattle.entries.specs.Listed.{noExpression, entryIn, readIn, stepIn}
 use Rattle.entries.specs.Heads.{locatedAs, headedIn, headed, formsIn, pairIn, bareIn, Within, refusedHead, numberPair, startxLength}
 use Rattle.entries.proofs.KindLaws.{no-code, code-is, code-unknown, range-bare, raw-end}
@@ -151,7 +151,7 @@ within s (refused n vs) q f k = tt
 
 -- the step of a head: the two numbers of a location are followed by an expression, those of a range are not
 module _ (p : Encoding) (endian : RunTimeEndian) (start : ℕ) (s : List ℕ) {h : Head} {code a b c : ℕ} (e : h ≡ head.Bounds code a b c) where
-  module _ {r : Data} (q : toldData r ≡ operand p endian start s expression c) where
+  module _ {r : ExpressionAnswer} (q : toldExpression r ≡ operand p endian start s expression c) where
     pub data-refused : (l : Bool) → l ≡ true → (t : Step RawLocListEntry) {x : Error} → t ≡ stepOf (refusal x) → r ≡ parsed.Refused x
         → stepIn l t ≡ stepOf (moved start (headedIn l p endian start s h))
     data-refused true k t f z = rw (f, e, ← q, z)

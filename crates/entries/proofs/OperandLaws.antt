@@ -22,16 +22,16 @@ use Rattle.bytes.specs.declared.Split.{Split}
 use Rattle.bytes.specs.declared.Split.the-variants as cut
 use Rattle.bytes.proofs.Inside.{split-inside}
 use Rattle.entries.specs.declared.Expression.{Expression}
-use Rattle.entries.specs.declared.operands.Data.{Data}
-use Rattle.entries.specs.declared.operands.Data.the-variants as parsed
-use Rattle.entries.specs.Told.{Step, stepOf, toldData, handed}
-use Rattle.entries.specs.Forms.{expression, addrIndex, indexed, byVersion, placed, block, operand, stop}
+use Rattle.entries.specs.declared.operands.ExpressionAnswer.{ExpressionAnswer}
+use Rattle.entries.specs.declared.operands.ExpressionAnswer.the-variants as parsed
+use Rattle.entries.specs.Told.{Step, stepOf, toldExpression, handed}
+use Rattle.entries.specs.Forms.{expression, addrIndex, indexed, versionedLength, placed, block, operand, stop}
 
 -- a refusal that the code hands on
 pub passed-on : {E : Type 0} {t : Step E} {r : Num} {x : Error} → t ≡ stepOf (handed (got stop 0) (told r)) → r ≡ num.Refused x → t ≡ stepOf (refusal x)
 passed-on p h = rw h at p
 
-pub expression-passed-on : {E : Type 0} {t : Step E} {r : Data} {x : Error} → t ≡ stepOf (handed (got stop 0) (toldData r)) → r ≡ parsed.Refused x
+pub expression-passed-on : {E : Type 0} {t : Step E} {r : ExpressionAnswer} {x : Error} → t ≡ stepOf (handed (got stop 0) (toldExpression r)) → r ≡ parsed.Refused x
     → t ≡ stepOf (refusal x)
 expression-passed-on p h = rw h at p
 
@@ -50,7 +50,7 @@ module _ {B : Type 0} {r : Num} {d : Read ℕ} (f : DebugAddrIndex → ℕ → R
   pub no-index-then : {x : Error} → r ≡ num.Refused x → andThen (indexed d) f ≡ refusal x
   no-index-then q = rw (← p, q)
 
-module _ {B : Type 0} {r : Data} {d : Read Expression} (f : Expression → ℕ → Read B) (p : toldData r ≡ d) where
+module _ {B : Type 0} {r : ExpressionAnswer} {d : Read Expression} (f : Expression → ℕ → Read B) (p : toldExpression r ≡ d) where
   pub expression-then : {v : Expression} {c : ℕ} → r ≡ parsed.Got v c → andThen d f ≡ f v c
   expression-then q = rw (← p, q)
 
@@ -59,20 +59,20 @@ module _ {B : Type 0} {r : Data} {d : Read Expression} (f : Expression → ℕ �
 
 -- a length that depends on the version
 module _ (k : ℕ) (p : Encoding) (endian : RunTimeEndian) (s : List ℕ) (at : ℕ) where
-  pub from-five : 5 ≤ p .version → byVersion k p endian s at ≡ unsigned s at
-  unfolding byVersion
+  pub from-five : 5 ≤ p .version → versionedLength k p endian s at ≡ unsigned s at
+  unfolding versionedLength
   from-five h = simp (le-leb _ _ h)
 
-  pub before-five : p .version < 5 → byVersion k p endian s at ≡ uint endian k s at
-  unfolding byVersion
+  pub before-five : p .version < 5 → versionedLength k p endian s at ≡ uint endian k s at
+  unfolding versionedLength
   before-five h = simp (lt-leb _ _ h)
 
 -- an expression: its length is there, or not
-pub length-is : (p : Encoding) (endian : RunTimeEndian) (start : ℕ) (s : List ℕ) (at : ℕ) {n c : ℕ} → byVersion 2 p endian s at ≡ got n c
+pub length-is : (p : Encoding) (endian : RunTimeEndian) (start : ℕ) (s : List ℕ) (at : ℕ) {n c : ℕ} → versionedLength 2 p endian s at ≡ got n c
     → operand p endian start s expression at ≡ block start s n c
 length-is p endian start s at h = rw h
 
-module _ (p : Encoding) (endian : RunTimeEndian) (start : ℕ) (s : List ℕ) (at : ℕ) {r : Num} (h : told r ≡ byVersion 2 p endian s at) where
+module _ (p : Encoding) (endian : RunTimeEndian) (start : ℕ) (s : List ℕ) (at : ℕ) {r : Num} (h : told r ≡ versionedLength 2 p endian s at) where
   pub length-refused : {x : Error} → r ≡ num.Refused x → operand p endian start s expression at ≡ refusal x
   length-refused q = rw (← h, q)
 

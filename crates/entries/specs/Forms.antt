@@ -15,13 +15,13 @@ use Rattle.entries.specs.declared.Expression.{Expression}
 -- an operand in the bytes: an index into the address table, a LEB128 number, location kind 3's length, an address, an
 -- expression (DWARF 5, 2.17.3 and 2.6.2)
 pub data Form : Type 0 where
-  index number span address expression : Form
+  index number rangeLength address expression : Form
 
 -- what is read of it
 abbrev pub Value : Form → Type 0
 Value index = DebugAddrIndex
 Value number = ℕ
-Value span = ℕ
+Value rangeLength = ℕ
 Value address = ℕ
 Value expression = Expression
 
@@ -32,8 +32,8 @@ abbrev pub indexed : Read ℕ → Read DebugAddrIndex
 indexed r = andThen r (λ i c. got (addrIndex i) c)
 
 -- a length: LEB128 from version 5 on; before, some number of bytes, as GNU split lists and bare pairs have it
-unfoldable pub byVersion : ℕ → Encoding → RunTimeEndian → List ℕ → ℕ → Read ℕ
-byVersion size p endian s at = pick (leb 5 (p .version)) (unsigned s at) (uint endian size s at)
+unfoldable pub versionedLength : ℕ → Encoding → RunTimeEndian → List ℕ → ℕ → Read ℕ
+versionedLength size encoding endian s at = pick (leb 5 (encoding .version)) (unsigned s at) (uint endian size s at)
 
 -- an expression's place is counted from the section's start
 abbrev pub placed : ℕ → Span → Expression
@@ -43,13 +43,13 @@ placed start x = record { offset = start + x .offset; len = x .len }
 unfoldable pub block : ℕ → List ℕ → ℕ → ℕ → Read Expression
 block start s n c = andThen (split n s c) (λ x d. got (placed start x) d)
 
--- an operand of a form at a place; up to version 4 span is four bytes and an expression's length two
+-- an operand of a form at a place; up to version 4 rangeLength is four bytes and an expression's length two
 abbrev pub operand : Encoding → RunTimeEndian → ℕ → List ℕ → (f : Form) → ℕ → Read (Value f)
-operand p endian start s index at = indexed (unsigned s at)
-operand p endian start s number at = unsigned s at
-operand p endian start s span at = byVersion 4 p endian s at
-operand p endian start s address at = addressAt endian (p .«address_size») s at
-operand p endian start s expression at = andThen (byVersion 2 p endian s at) (block start s)
+operand encoding endian start s index at = indexed (unsigned s at)
+operand encoding endian start s number at = unsigned s at
+operand encoding endian start s rangeLength at = versionedLength 4 encoding endian s at
+operand encoding endian start s address at = addressAt endian (encoding .«address_size») s at
+operand encoding endian start s expression at = andThen (versionedLength 2 encoding endian s at) (block start s)
 
 -- a function of the operands' values
 abbrev pub Takes : List Form → Type 0 → Type 0
@@ -63,6 +63,6 @@ pub data Raw (E : Type 0) : Type 0 where
 
 -- the operands one after the other, handed to what they mean
 abbrev pub operands : {E : Type 0} → Encoding → RunTimeEndian → ℕ → List ℕ → (fs : List Form) → Takes fs E → ℕ → Read (Raw E)
-operands p endian start s [] e at = got (entry e) at
-operands p endian start s (f ∷ fs) e at =
-    andThen (operand p endian start s f at) (λ v c. operands p endian start s fs (e v) c)
+operands encoding endian start s [] e at = got (entry e) at
+operands encoding endian start s (f ∷ fs) e at =
+    andThen (operand encoding endian start s f at) (λ v c. operands encoding endian start s fs (e v) c)

@@ -11,7 +11,7 @@ use Rattle.bytes.specs.declared.common.Encoding.{Encoding}
 use Rattle.bytes.specs.declared.endianity.RunTimeEndian.{RunTimeEndian}
 use Rattle.bytes.specs.declared.Num.{Num}
 use Rattle.bytes.specs.declared.Num.the-variants as num
-use Rattle.entries.specs.Forms.{Form, expression, addrIndex, byVersion, operand, Takes, Raw, stop, entry}
+use Rattle.entries.specs.Forms.{Form, expression, addrIndex, versionedLength, operand, Takes, Raw, stop, entry}
 use Rattle.entries.specs.Kinds.{bare}
 use Rattle.entries.specs.Listed.{bounds, noExpression, EntryIn, entryIn}
 use Rattle.entries.specs.declared.Expression.{Expression}
@@ -33,20 +33,20 @@ locatedAs code a b x =
 
 -- what two numbers after a code come to: in a location list an expression follows them
 abbrev pub followed : (l : Bool) → Encoding → RunTimeEndian → ℕ → List ℕ → ℕ → ℕ → ℕ → ℕ → Read (Raw (EntryIn l))
-followed true p endian start s code a b c =
-    andThen (operand p endian start s expression c) (λ x d. got (entry (locatedAs code a b x)) d)
-followed false p endian start s code a b c = got (entry (bounds (locatedAs code a b noExpression))) c
+followed true encoding endian start s code a b c =
+    andThen (operand encoding endian start s expression c) (λ x d. got (entry (locatedAs code a b x)) d)
+followed false encoding endian start s code a b c = got (entry (bounds (locatedAs code a b noExpression))) c
 
 -- what is read at the front of a part, by the head that was read there; where the end stands is not told
 abbrev pub headedIn : (l : Bool) → Encoding → RunTimeEndian → ℕ → List ℕ → Head → Read (Raw (EntryIn l))
-headedIn l p endian start s (head.Bounds code a b c) = followed l p endian start s code a b c
-headedIn l p endian start s (head.BaseAddress a c) = got (entry (entryIn l (loc.BaseAddress a))) c
-headedIn l p endian start s (head.BaseAddressx i c) = got (entry (entryIn l (loc.BaseAddressx (addrIndex i)))) c
-headedIn l p endian start s head.End = got stop 0
-headedIn l p endian start s (head.Refused e) = refusal e
+headedIn l encoding endian start s (head.Bounds code a b c) = followed l encoding endian start s code a b c
+headedIn l encoding endian start s (head.BaseAddress a c) = got (entry (entryIn l (loc.BaseAddress a))) c
+headedIn l encoding endian start s (head.BaseAddressx i c) = got (entry (entryIn l (loc.BaseAddressx (addrIndex i)))) c
+headedIn l encoding endian start s head.End = got stop 0
+headedIn l encoding endian start s (head.Refused e) = refusal e
 
 abbrev pub headed : Encoding → RunTimeEndian → ℕ → List ℕ → Head → Read (Raw RawLocListEntry)
-headed p endian start s r = headedIn true p endian start s r
+headed encoding endian start s r = headedIn true encoding endian start s r
 
 -- a bare pair, with what follows it
 abbrev pub formsIn : Bool → List Form
@@ -58,7 +58,7 @@ pairIn true b e = loc.AddressOrOffsetPair b e
 pairIn false b e = rng.AddressOrOffsetPair b e
 
 abbrev pub bareIn : (l : Bool) → Encoding → RunTimeEndian → ℕ → List ℕ → Read (Raw (EntryIn l))
-bareIn l p endian start s = bare p endian start s (λ a. entryIn l (loc.BaseAddress a)) (formsIn l) (pairIn l)
+bareIn l encoding endian start s = bare encoding endian start s (λ a. entryIn l (loc.BaseAddress a)) (formsIn l) (pairIn l)
 
 -- an entry that was read ends in a part of some length
 abbrev pub Within : {E : Type 0} → ℕ → Read (Raw E) → Type 0
@@ -68,13 +68,13 @@ Within len (refused n vs) = Unit
 
 -- two LEB128 numbers after a code
 abbrev pub numberPair : Encoding → RunTimeEndian → ℕ → List ℕ → ℕ → ℕ → Read (Raw RawLocListEntry)
-numberPair p endian start s code at =
-    andThen (unsigned s at) (λ a c. andThen (unsigned s c) (λ b d. headed p endian start s (head.Bounds code a b d)))
+numberPair encoding endian start s code at =
+    andThen (unsigned s at) (λ a c. andThen (unsigned s c) (λ b d. headed encoding endian start s (head.Bounds code a b d)))
 
 -- a LEB128 number and a length
 abbrev pub startxLength : Encoding → RunTimeEndian → ℕ → List ℕ → ℕ → Read (Raw RawLocListEntry)
-startxLength p endian start s at =
-    andThen (unsigned s at) (λ a c. andThen (byVersion 4 p endian s c) (λ b d. headed p endian start s (head.Bounds 3 a b d)))
+startxLength encoding endian start s at =
+    andThen (unsigned s at) (λ a c. andThen (versionedLength 4 encoding endian s c) (λ b d. headed encoding endian start s (head.Bounds 3 a b d)))
 
 -- a refusal handed on by the code; what is not refused is not handed on, and gets some other answer
 abbrev pub refusedHead : Num → Head

@@ -13,7 +13,7 @@ use Rattle.bytes.specs.declared.endianity.RunTimeEndian.{RunTimeEndian}
 use Rattle.bytes.specs.declared.endianity.RunTimeEndian.the-variants.{Little}
 use Rattle.bytes.specs.declared.error.Error.{Error}
 use Rattle.bytes.specs.declared.error.Error.the-variants.{UnknownRangeListsEntry, UnknownLocListsEntry}
-use Rattle.entries.specs.Forms.{Form, index, number, span, address, expression, Takes, Raw, stop, entry, operand, operands}
+use Rattle.entries.specs.Forms.{Form, index, number, rangeLength, address, expression, Takes, Raw, stop, entry, operand, operands}
 use Rattle.entries.specs.declared.RawRngListEntry.{RawRngListEntry}
 use Rattle.entries.specs.declared.RawRngListEntry.the-variants as rng
 use Rattle.entries.specs.declared.RawLocListEntry.{RawLocListEntry}
@@ -47,7 +47,7 @@ locationKinds =
     row 0 endOfList
     ∷ row 1 (kind (index ∷ []) loc.BaseAddressx)
     ∷ row 2 (kind (index ∷ index ∷ expression ∷ []) loc.StartxEndx)
-    ∷ row 3 (kind (index ∷ span ∷ expression ∷ []) loc.StartxLength)
+    ∷ row 3 (kind (index ∷ rangeLength ∷ expression ∷ []) loc.StartxLength)
     ∷ row 4 (kind (number ∷ number ∷ expression ∷ []) loc.OffsetPair)
     ∷ row 5 (kind (expression ∷ []) loc.DefaultLocation)
     ∷ row 6 (kind (address ∷ []) loc.BaseAddress)
@@ -62,14 +62,14 @@ kindOf (row n k ∷ rows) code = pick (eqb code n) k (kindOf rows code)
 
 -- the entry of a kind whose operands start at a place; a code without a kind is refused, with the code
 abbrev pub ofKind : {E : Type 0} → Encoding → RunTimeEndian → ℕ → List ℕ → (ℕ → Error) → ℕ → Kind E → ℕ → Read (Raw E)
-ofKind p endian start s unknownEntry code endOfList at = got stop at
-ofKind p endian start s unknownEntry code unknown at = refusal (unknownEntry code)
-ofKind p endian start s unknownEntry code (kind fs e) at = operands p endian start s fs e at
+ofKind encoding endian start s unknownEntry code endOfList at = got stop at
+ofKind encoding endian start s unknownEntry code unknown at = refusal (unknownEntry code)
+ofKind encoding endian start s unknownEntry code (kind fs e) at = operands encoding endian start s fs e at
 
 -- at the front of a part, a code of one byte and its operands, by any map from codes to kinds
 unfoldable pub coded : {E : Type 0} → Encoding → RunTimeEndian → ℕ → List ℕ → (ℕ → Error) → (ℕ → Kind E) → Read (Raw E)
-coded p endian start s unknownEntry kinds =
-    andThen (uint Little 1 s 0) (λ code c. ofKind p endian start s unknownEntry code (kinds code) c)
+coded encoding endian start s unknownEntry kinds =
+    andThen (uint Little 1 s 0) (λ code c. ofKind encoding endian start s unknownEntry code (kinds code) c)
 
 -- whether a bare pair ends its list: both numbers zero, not merely equal (DWARF 4, 2.17.3 and 2.6.2)
 abbrev pub isEnd : ℕ → ℕ → Bool
@@ -78,40 +78,40 @@ isEnd b e = eqb b 0 && eqb e 0
 -- a bare pair (DWARF 4, 2.17.3 and 2.6.2): both zero end the list, begin with all bits set makes end the base, else the
 -- pair is an entry with what follows it
 unfoldable pub ofPair : {E : Type 0} → Encoding → RunTimeEndian → ℕ → List ℕ → (ℕ → E) → (fs : List Form) → (ℕ → ℕ → Takes fs E) → ℕ → ℕ → ℕ → Read (Raw E)
-ofPair p endian start s base fs pair b e c =
+ofPair encoding endian start s base fs pair b e c =
     pick (isEnd b e) (got stop c)
-    (pick (eqb b (ones (p .«address_size»))) (got (entry (base e)) c) (operands p endian start s fs (pair b e) c))
+    (pick (eqb b (ones (encoding .«address_size»))) (got (entry (base e)) c) (operands encoding endian start s fs (pair b e) c))
 
 -- at the front of a part, a bare pair of addresses, with the forms of what follows it
 unfoldable pub bare : {E : Type 0} → Encoding → RunTimeEndian → ℕ → List ℕ → (ℕ → E) → (fs : List Form) → (ℕ → ℕ → Takes fs E) → Read (Raw E)
-bare p endian start s base fs pair =
-    andThen (operand p endian start s address 0) (λ b c.
-    andThen (operand p endian start s address c) (λ e d. ofPair p endian start s base fs pair b e d))
+bare encoding endian start s base fs pair =
+    andThen (operand encoding endian start s address 0) (λ b c.
+    andThen (operand encoding endian start s address c) (λ e d. ofPair encoding endian start s base fs pair b e d))
 
 -- ranges have no operand that speaks of the section, so their part may start anywhere
 abbrev pub codedRange : Encoding → RunTimeEndian → List ℕ → Read (Raw RawRngListEntry)
-codedRange p endian s = coded p endian 0 s UnknownRangeListsEntry (kindOf rangeKinds)
+codedRange encoding endian s = coded encoding endian 0 s UnknownRangeListsEntry (kindOf rangeKinds)
 
 abbrev pub bareRange : Encoding → RunTimeEndian → List ℕ → Read (Raw RawRngListEntry)
-bareRange p endian s = bare p endian 0 s rng.BaseAddress [] rng.AddressOrOffsetPair
+bareRange encoding endian s = bare encoding endian 0 s rng.BaseAddress [] rng.AddressOrOffsetPair
 
 abbrev pub codedLocation : Encoding → RunTimeEndian → ℕ → List ℕ → Read (Raw RawLocListEntry)
-codedLocation p endian start s = coded p endian start s UnknownLocListsEntry (kindOf locationKinds)
+codedLocation encoding endian start s = coded encoding endian start s UnknownLocListsEntry (kindOf locationKinds)
 
 abbrev pub bareLocation : Encoding → RunTimeEndian → ℕ → List ℕ → Read (Raw RawLocListEntry)
-bareLocation p endian start s = bare p endian start s loc.BaseAddress (expression ∷ []) loc.AddressOrOffsetPair
+bareLocation encoding endian start s = bare encoding endian start s loc.BaseAddress (expression ∷ []) loc.AddressOrOffsetPair
 
 -- the entry at the front of a part: kinds from version 5 on, bare pairs before
 unfoldable pub rangeEntry : Encoding → RunTimeEndian → List ℕ → Read (Raw RawRngListEntry)
-rangeEntry p endian s = pick (leb 5 (p .version)) (codedRange p endian s) (bareRange p endian s)
+rangeEntry encoding endian s = pick (leb 5 (encoding .version)) (codedRange encoding endian s) (bareRange encoding endian s)
 
 -- GNU split lists have kinds in every version
 abbrev pub hasKinds : Bool → ℕ → Bool
 hasKinds split version = split || leb 5 version
 
 unfoldable pub locationEntry : Bool → Encoding → RunTimeEndian → ℕ → List ℕ → Read (Raw RawLocListEntry)
-locationEntry split p endian start s =
-    pick (hasKinds split (p .version)) (codedLocation p endian start s) (bareLocation p endian start s)
+locationEntry split encoding endian start s =
+    pick (hasKinds split (encoding .version)) (codedLocation encoding endian start s) (bareLocation encoding endian start s)
 
 -- places of a part counted in the section again
 abbrev pub moved : {A : Type 0} → ℕ → Read A → Read A
@@ -123,8 +123,8 @@ rawAt read s at = pick (leb (length s) at) (got stop at) (moved at (read (drop a
 
 -- the raw entry at a place of a range list
 abbrev pub rawRange : Encoding → RunTimeEndian → List ℕ → ℕ → Read (Raw RawRngListEntry)
-rawRange p endian s at = rawAt (rangeEntry p endian) s at
+rawRange encoding endian s at = rawAt (rangeEntry encoding endian) s at
 
 -- the raw entry at a place of a location list
 abbrev pub rawLocation : Bool → Encoding → RunTimeEndian → List ℕ → ℕ → Read (Raw RawLocListEntry)
-rawLocation split p endian s at = rawAt (locationEntry split p endian at) s at
+rawLocation split encoding endian s at = rawAt (locationEntry split encoding endian at) s at

@@ -50,8 +50,8 @@ entryIn false e = bounds e
 
 -- the raw entry at a place
 abbrev pub readIn : (l : Bool) → Bool → Encoding → RunTimeEndian → List ℕ → ℕ → Read (Raw (EntryIn l))
-readIn true split p endian s at = rawLocation split p endian s at
-readIn false split p endian s at = rawRange p endian s at
+readIn true split encoding endian s at = rawLocation split encoding endian s at
+readIn false split encoding endian s at = rawRange encoding endian s at
 
 abbrev pub stepIn : (l : Bool) → Step RawLocListEntry → Step (EntryIn l)
 stepIn l (found e c) = found (entryIn l e) c

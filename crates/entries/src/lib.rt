@@ -37,13 +37,13 @@ pub enum RawLocListEntry {
 }
 
 // One call of a raw reader: an entry with the place after it, the end, or a refusal.
-pub enum RngStep {
+pub enum RangeStep {
     Entry(RawRngListEntry, usize),
     End,
     Refused(Error),
 }
 
-pub enum LocStep {
+pub enum LocationStep {
     Entry(RawLocListEntry, usize),
     End,
     Refused(Error),

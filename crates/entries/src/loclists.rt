@@ -1,5 +1,5 @@
 // Location list entries (DWARF 5, 2.6.2 and 7.7.3; DWARF 4, 2.6.2; GNU split lists up to version 4).
-use super::LocStep;
+use super::LocationStep;
 use super::raw::Head;
 use super::raw::passed;
 use bytes::Num;
@@ -109,7 +109,7 @@ pub fn raw_location_entry(
     encoding: Encoding,
     endian: RunTimeEndian,
     split: bool,
-) -> LocStep
+) -> LocationStep
     ensures { λ r. ⌜ toldLocation r ≡ stepOf (rawLocation split encoding endian (now (section .entry)) at) ⌝ }
 {
     super::raw::raw_entry(section, at, encoding, endian, true, split)

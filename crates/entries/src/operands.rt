@@ -11,19 +11,19 @@ ghost use Prim.Native.Nat.{_+_, _<_, _^_};
 ghost use lib.ListN.{length};
 ghost use Rattle.bytes.specs.Error.{told, toldSplit, refusal};
 ghost use Rattle.bytes.specs.declared.error.Error.the-variants.{UnexpectedEof};
-ghost use Rattle.entries.specs.Told.{toldData, handed};
-ghost use Rattle.entries.specs.Forms.{expression, byVersion, block, operand};
+ghost use Rattle.entries.specs.Told.{toldExpression, handed};
+ghost use Rattle.entries.specs.Forms.{expression, versionedLength, block, operand};
 ghost use Rattle.entries.specs.Kinds.{isEnd};
 
 // An expression that was read, with the place after it.
-pub enum Data {
+pub enum ExpressionAnswer {
     Got(Expression, usize),
     Refused(Error),
 }
 
 // The length of location kind 3: LEB128, and four bytes in split lists up to version 4. 1, 2.
 pub(crate) fn read_length(part: &[u8], at: usize, encoding: Encoding, endian: RunTimeEndian) -> Num
-    ensures { λ r. ⌜ told r ≡ byVersion 4 encoding endian (now (part .entry)) at ⌝ }
+    ensures { λ r. ⌜ told r ≡ versionedLength 4 encoding endian (now (part .entry)) at ⌝ }
 {
     if encoding.version <= 4 {
         return bytes::reader::read_u32(part, at, endian);
@@ -32,34 +32,34 @@ pub(crate) fn read_length(part: &[u8], at: usize, encoding: Encoding, endian: Ru
 }
 
 // A refusal of a length passed on.
-fn passed(r: Num) -> Data
-    ensures { λ q. ⌜ toldData q ≡ handed (refusal UnexpectedEof) (told r) ⌝ }
+fn passed(r: Num) -> ExpressionAnswer
+    ensures { λ q. ⌜ toldExpression q ≡ handed (refusal UnexpectedEof) (told r) ⌝ }
 {
     match r {
-        Num::Got(_, _) => Data::Refused(Error::UnexpectedEof),
-        Num::Refused(e) => Data::Refused(e),
+        Num::Got(_, _) => ExpressionAnswer::Refused(Error::UnexpectedEof),
+        Num::Refused(e) => ExpressionAnswer::Refused(e),
     }
 }
 
-fn passed_split(r: Split) -> Data
-    ensures { λ q. ⌜ toldData q ≡ handed (refusal UnexpectedEof) (toldSplit r) ⌝ }
+fn passed_split(r: Split) -> ExpressionAnswer
+    ensures { λ q. ⌜ toldExpression q ≡ handed (refusal UnexpectedEof) (toldSplit r) ⌝ }
 {
     match r {
-        Split::Got(_, _) => Data::Refused(Error::UnexpectedEof),
-        Split::Refused(e) => Data::Refused(e),
+        Split::Got(_, _) => ExpressionAnswer::Refused(Error::UnexpectedEof),
+        Split::Refused(e) => ExpressionAnswer::Refused(e),
     }
 }
 
 // The bytes of an expression, whose length is read. 1.
-fn expression_bytes(part: &[u8], at: usize, len: u64, start: usize) -> Data
+fn expression_bytes(part: &[u8], at: usize, len: u64, start: usize) -> ExpressionAnswer
     requires { ⌜ start + length (now part) < 2 ^ 64 ⌝ }
-    ensures { λ r. ⌜ toldData r ≡ block start (now (part .entry)) len at ⌝ }
+    ensures { λ r. ⌜ toldExpression r ≡ block start (now (part .entry)) len at ⌝ }
 {
     let r = bytes::reader::split(part, at, len);
     let Split::Got(span, c) = r else {
         return passed_split(r);
     };
-    Data::Got(
+    ExpressionAnswer::Got(
         Expression {
             offset: start + span.offset,
             len: span.len,
@@ -76,9 +76,9 @@ pub(crate) fn read_expression(
     start: usize,
     encoding: Encoding,
     endian: RunTimeEndian,
-) -> Data
+) -> ExpressionAnswer
     requires { ⌜ start + length (now part) < 2 ^ 64 ⌝ }
-    ensures { λ r. ⌜ toldData r ≡ operand encoding endian start (now (part .entry)) expression at ⌝ }
+    ensures { λ r. ⌜ toldExpression r ≡ operand encoding endian start (now (part .entry)) expression at ⌝ }
 {
     if 5 <= encoding.version {
         if let OneByte::Got(len, c) = bytes::leb128::single(part, at) {

@@ -1,10 +1,10 @@
 // Raw entries of both lists, read as location entries, whose expression is empty in a range list. The operands of a kind are
 // read in the list's own module; all else is here.
 use super::Expression;
-use super::LocStep;
+use super::LocationStep;
 use super::RawLocListEntry;
 use super::RawRngListEntry;
-use super::operands::Data;
+use super::operands::ExpressionAnswer;
 use bytes::Num;
 use bytes::common::DebugAddrIndex;
 use bytes::common::Encoding;
@@ -15,7 +15,7 @@ ghost use mathlib.Core.Path.{_≡_};
 ghost use Prim.Native.Nat.{ℕ, _+_, _<_, _^_};
 ghost use lib.ListN.{length};
 ghost use Rattle.bytes.specs.Read.{got};
-ghost use Rattle.entries.specs.Told.{stepOf, toldLocation, toldData, handed};
+ghost use Rattle.entries.specs.Told.{stepOf, toldLocation, toldExpression, handed};
 ghost use Rattle.entries.specs.Forms.{stop};
 ghost use Rattle.entries.specs.Kinds.{hasKinds, rangeEntry, locationEntry, moved};
 ghost use Rattle.entries.specs.Listed.{bounds, readIn, stepIn};
@@ -41,12 +41,12 @@ pub(crate) fn passed(r: Num) -> Head
     }
 }
 
-fn passed_data(r: Data) -> LocStep
-    ensures { λ q. ⌜ toldLocation q ≡ stepOf (handed (got stop 0) (toldData r)) ⌝ }
+fn passed_expression(r: ExpressionAnswer) -> LocationStep
+    ensures { λ q. ⌜ toldLocation q ≡ stepOf (handed (got stop 0) (toldExpression r)) ⌝ }
 {
     match r {
-        Data::Got(_, _) => LocStep::End,
-        Data::Refused(e) => LocStep::Refused(e),
+        ExpressionAnswer::Got(_, _) => LocationStep::End,
+        ExpressionAnswer::Refused(e) => LocationStep::Refused(e),
     }
 }
 
@@ -116,17 +116,20 @@ fn step_of(
     encoding: Encoding,
     endian: RunTimeEndian,
     locations: bool,
-) -> LocStep
+) -> LocationStep
     requires { ⌜ start + length (now part) < 2 ^ 64 ⌝ }
     requires { ⌜ Within (length (now part)) (headedIn locations encoding endian start (now part) head) ⌝ }
     ensures { λ r. ⌜ stepIn locations (toldLocation r) ≡ stepOf (moved start (headedIn locations encoding endian start (now (part .entry)) head)) ⌝ }
 {
     match head {
-        Head::End => LocStep::End,
-        Head::Refused(e) => LocStep::Refused(e),
-        Head::BaseAddress(addr, c) => LocStep::Entry(RawLocListEntry::BaseAddress(addr), start + c),
+        Head::End => LocationStep::End,
+        Head::Refused(e) => LocationStep::Refused(e),
+        Head::BaseAddress(addr, c) => LocationStep::Entry(
+            RawLocListEntry::BaseAddress(addr),
+            start + c,
+        ),
         Head::BaseAddressx(addr, c) => {
-            LocStep::Entry(
+            LocationStep::Entry(
                 RawLocListEntry::BaseAddressx(DebugAddrIndex(addr)),
                 start + c,
             )
@@ -134,12 +137,12 @@ fn step_of(
         Head::Bounds(code, a, b, c) => {
             if locations {
                 let r = super::operands::read_expression(part, c, start, encoding, endian);
-                let Data::Got(expression, c1) = r else {
-                    return passed_data(r);
+                let ExpressionAnswer::Got(expression, c1) = r else {
+                    return passed_expression(r);
                 };
-                return LocStep::Entry(located(code, a, b, expression), start + c1);
+                return LocationStep::Entry(located(code, a, b, expression), start + c1);
             }
-            LocStep::Entry(
+            LocationStep::Entry(
                 located(code, a, b, Expression { offset: 0, len: 0 }),
                 start + c,
             )
@@ -148,7 +151,7 @@ fn step_of(
 }
 
 // The entry at the front of a part that starts at a place of its section: kinds from version 5 on, bare pairs before.
-fn range_entry(part: &[u8], start: usize, encoding: Encoding, endian: RunTimeEndian) -> LocStep
+fn range_entry(part: &[u8], start: usize, encoding: Encoding, endian: RunTimeEndian) -> LocationStep
     requires { ⌜ start + length (now part) < 2 ^ 64 ⌝ }
     ensures { λ r. ⌜ stepIn false (toldLocation r) ≡ stepOf (moved start (rangeEntry encoding endian (now (part .entry)))) ⌝ }
 {
@@ -166,7 +169,7 @@ fn location_entry(
     encoding: Encoding,
     endian: RunTimeEndian,
     split: bool,
-) -> LocStep
+) -> LocationStep
     requires { ⌜ start + length (now part) < 2 ^ 64 ⌝ }
     ensures { λ r. ⌜ toldLocation r ≡ stepOf (moved start (locationEntry split encoding endian start (now (part .entry)))) ⌝ }
 {
@@ -184,11 +187,11 @@ pub fn raw_entry(
     endian: RunTimeEndian,
     locations: bool,
     split: bool,
-) -> LocStep
+) -> LocationStep
     ensures { λ r. ⌜ stepIn locations (toldLocation r) ≡ stepOf (readIn locations split encoding endian (now (section .entry)) at) ⌝ }
 {
     if section.len() <= at {
-        return LocStep::End;
+        return LocationStep::End;
     }
     if locations {
         return location_entry(&section[at..], at, encoding, endian, split);

@@ -1,8 +1,8 @@
 // Range list entries (DWARF 5, 2.17.3 and 7.25; DWARF 4, 2.17.3).
 use super::Expression;
-use super::LocStep;
+use super::LocationStep;
+use super::RangeStep;
 use super::RawLocListEntry;
-use super::RngStep;
 use bytes::Num;
 use bytes::common::DebugAddrIndex;
 use bytes::common::Encoding;
@@ -20,12 +20,12 @@ ghost use Rattle.entries.specs.Forms.{stop};
 ghost use Rattle.entries.specs.Kinds.{codedRange, moved, rawRange};
 
 // A refusal of an operand passed on.
-fn passed(r: Num) -> LocStep
+fn passed(r: Num) -> LocationStep
     ensures { λ q. ⌜ stepIn false (toldLocation q) ≡ stepOf (handed (got stop 0) (told r)) ⌝ }
 {
     match r {
-        Num::Got(_, _) => LocStep::End,
-        Num::Refused(e) => LocStep::Refused(e),
+        Num::Got(_, _) => LocationStep::End,
+        Num::Refused(e) => LocationStep::Refused(e),
     }
 }
 
@@ -36,7 +36,7 @@ pub(crate) fn coded_range(
     start: usize,
     encoding: Encoding,
     endian: RunTimeEndian,
-) -> LocStep
+) -> LocationStep
     requires { ⌜ start + length (now part) < 2 ^ 64 ⌝ }
     ensures { λ r. ⌜ stepIn false (toldLocation r) ≡ stepOf (moved start (codedRange encoding endian (now (part .entry)))) ⌝ }
 {
@@ -46,13 +46,13 @@ pub(crate) fn coded_range(
         return passed(r);
     };
     match code {
-        0 => LocStep::End,
+        0 => LocationStep::End,
         1 => {
             let r1 = bytes::leb128::unsigned(part, c);
             let Num::Got(addr, c1) = r1 else {
                 return passed(r1);
             };
-            LocStep::Entry(
+            LocationStep::Entry(
                 RawLocListEntry::BaseAddressx(DebugAddrIndex(addr)),
                 start + c1,
             )
@@ -66,7 +66,7 @@ pub(crate) fn coded_range(
             let Num::Got(end, c2) = r2 else {
                 return passed(r2);
             };
-            LocStep::Entry(
+            LocationStep::Entry(
                 RawLocListEntry::StartxEndx(
                     DebugAddrIndex(begin),
                     DebugAddrIndex(end),
@@ -84,7 +84,7 @@ pub(crate) fn coded_range(
             let Num::Got(len, c2) = r2 else {
                 return passed(r2);
             };
-            LocStep::Entry(
+            LocationStep::Entry(
                 RawLocListEntry::StartxLength(
                     DebugAddrIndex(begin),
                     len,
@@ -102,7 +102,7 @@ pub(crate) fn coded_range(
             let Num::Got(end, c2) = r2 else {
                 return passed(r2);
             };
-            LocStep::Entry(
+            LocationStep::Entry(
                 RawLocListEntry::OffsetPair(begin, end, Expression { offset: 0, len: 0 }),
                 start + c2,
             )
@@ -112,7 +112,7 @@ pub(crate) fn coded_range(
             let Num::Got(addr, c1) = r1 else {
                 return passed(r1);
             };
-            LocStep::Entry(RawLocListEntry::BaseAddress(addr), start + c1)
+            LocationStep::Entry(RawLocListEntry::BaseAddress(addr), start + c1)
         }
         6 => {
             let r1 = bytes::reader::read_address(part, c, size, endian);
@@ -123,7 +123,7 @@ pub(crate) fn coded_range(
             let Num::Got(end, c2) = r2 else {
                 return passed(r2);
             };
-            LocStep::Entry(
+            LocationStep::Entry(
                 RawLocListEntry::StartEnd(begin, end, Expression { offset: 0, len: 0 }),
                 start + c2,
             )
@@ -137,12 +137,12 @@ pub(crate) fn coded_range(
             let Num::Got(len, c2) = r2 else {
                 return passed(r2);
             };
-            LocStep::Entry(
+            LocationStep::Entry(
                 RawLocListEntry::StartLength(begin, len, Expression { offset: 0, len: 0 }),
                 start + c2,
             )
         }
-        _ => LocStep::Refused(Error::UnknownRangeListsEntry(code)),
+        _ => LocationStep::Refused(Error::UnknownRangeListsEntry(code)),
     }
 }
 
@@ -153,12 +153,12 @@ pub fn raw_range_entry(
     at: usize,
     encoding: Encoding,
     endian: RunTimeEndian,
-) -> RngStep
+) -> RangeStep
     ensures { λ r. ⌜ toldRange r ≡ stepOf (rawRange encoding endian (now (section .entry)) at) ⌝ }
 {
     match super::raw::raw_entry(section, at, encoding, endian, false, false) {
-        LocStep::Entry(e, c) => RngStep::Entry(super::raw::bounds_of(e), c),
-        LocStep::End => RngStep::End,
-        LocStep::Refused(e) => RngStep::Refused(e),
+        LocationStep::Entry(e, c) => RangeStep::Entry(super::raw::bounds_of(e), c),
+        LocationStep::End => RangeStep::End,
+        LocationStep::Refused(e) => RangeStep::Refused(e),
     }
 }

@@ -91,23 +91,23 @@ locationOf code a b x =
 
 -- a code above the last one is refused as an unknown entry
 unfoldable pub convertRange : Encoding → RunTimeEndian → List ℕ → DebugAddrBase → Walk → ℕ → ℕ → ℕ → Outcome Unit
-convertRange p endian table base w code a b =
+convertRange encoding endian table tableBase w code a b =
     pick (ltb 7 code) (outcomeRefuses (number (UnknownRangeListsEntry code)) (values (UnknownRangeListsEntry code)) w)
-    (convertedRange p endian table base w (rangeOf code a b))
+    (convertedRange encoding endian table tableBase w (rangeOf code a b))
 
 unfoldable pub convertLocation : Encoding → RunTimeEndian → List ℕ → DebugAddrBase → Walk → ℕ → ℕ → ℕ → Expression → Outcome Expression
-convertLocation p endian table base w code a b x =
+convertLocation encoding endian table tableBase w code a b x =
     pick (ltb 8 code) (outcomeRefuses (number (UnknownLocListsEntry code)) (values (UnknownLocListsEntry code)) w)
-    (convertedLocation p endian table base w (locationOf code a b x))
+    (convertedLocation encoding endian table tableBase w (locationOf code a b x))
 
 -- the walk and the entry in the words
 abbrev pub convertRangeWords : Encoding → RunTimeEndian → List ℕ → DebugAddrBase → List ℕ → Outcome Unit
-convertRangeWords p endian table base io =
-    convertRange p endian table base (walkOf io) (getD io 2 0) (getD io 3 0) (getD io 4 0)
+convertRangeWords encoding endian table tableBase io =
+    convertRange encoding endian table tableBase (walkOf io) (getD io 2 0) (getD io 3 0) (getD io 4 0)
 
 abbrev pub convertLocationWords : Encoding → RunTimeEndian → List ℕ → DebugAddrBase → List ℕ → Outcome Expression
-convertLocationWords p endian table base io =
-    convertLocation p endian table base (walkOf io) (getD io 2 0) (getD io 3 0) (getD io 4 0) (record { offset = getD io 5 0; len = getD io 6 0 })
+convertLocationWords encoding endian table tableBase io =
+    convertLocation encoding endian table tableBase (walkOf io) (getD io 2 0) (getD io 3 0) (getD io 4 0) (record { offset = getD io 5 0; len = getD io 6 0 })
 
 abbrev pub rangeOutcome : Outcome Unit → List ℕ
 rangeOutcome (outcomeGives (item b e u) w) = eight 0 (w .at) (w .«base_address») b e 0 0 0 0

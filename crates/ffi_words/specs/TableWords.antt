@@ -13,9 +13,9 @@ use Rattle.ffi_words.specs.Words.{four, endFour, refusedFour, eight, end
 
 -- version, format, address size, count, the header's own size, and what is left of the unit
 abbrev pub listsWords : Result Parsed → List ℕ
-listsWords (gives p) =
-    eight 0 0 (p .header .encoding .version) (dwarf64Of (p .header .encoding .format)) (p .header .encoding .«address_size»)
-    (p .header .«offset_entry_count») (headerSize (p .header .encoding)) (p .rest .offset) (p .rest .len)
+listsWords (gives encoding) =
+    eight 0 0 (encoding .header .encoding .version) (dwarf64Of (encoding .header .encoding .format)) (encoding .header .encoding .«address_size»)
+    (encoding .header .«offset_entry_count») (headerSize (encoding .header .encoding)) (encoding .rest .offset) (encoding .rest .len)
 listsWords (refuses n vs) = refusedEight 0 0 n vs
 
 -- the place after the table; version, offset, length, format, address size, and where the addresses are

@@ -8,9 +8,9 @@ use bytes::error::Error;
 use entries::Expression;
 use entries::RawLocListEntry;
 use lists::Walk;
-use lists::loclists::LocAnswer;
-use lists::loclists::LocConverted;
-use lists::loclists::RawLocAnswer;
+use lists::loclists::LocationAnswer;
+use lists::loclists::LocationConverted;
+use lists::loclists::RawLocationAnswer;
 use lookups::LocationFound;
 ghost use mathlib.Core.Path.{_≡_};
 ghost use Rattle.lists.specs.Walk.{toldNextLocation, toldRawLocation, toldConvertedLocation};
@@ -18,11 +18,11 @@ ghost use Rattle.lookups.specs.Lookup.{toldLocation};
 ghost use Rattle.ffi_words.specs.Words.{eightOf};
 ghost use Rattle.ffi_words.specs.ListWords.{locationNext, locationEntry, rawLocationNext, locationOf, convertLocation, locationOutcome, locationFound};
 
-pub fn location_words(r: LocAnswer) -> Eight
+pub fn location_words(r: LocationAnswer) -> Eight
     ensures { λ w. ⌜ eightOf w ≡ locationNext (toldNextLocation r) ⌝ }
 {
     match r {
-        LocAnswer::Location(location, walk) => {
+        LocationAnswer::Location(location, walk) => {
             let range = location.range;
             let data = location.data;
             Eight {
@@ -37,8 +37,8 @@ pub fn location_words(r: LocAnswer) -> Eight
                 h: 0,
             }
         }
-        LocAnswer::End(walk) => super::words::end_eight(walk.at as u64, walk.base_address),
-        LocAnswer::Refused(e, walk) => super::words::refused_eight(
+        LocationAnswer::End(walk) => super::words::end_eight(walk.at as u64, walk.base_address),
+        LocationAnswer::Refused(e, walk) => super::words::refused_eight(
             walk.at as u64,
             walk.base_address,
             e,
@@ -115,13 +115,13 @@ pub fn entry_words(raw: RawLocListEntry, at: u64, base: u64) -> Eight
     }
 }
 
-pub fn raw_words(r: RawLocAnswer) -> Eight
+pub fn raw_words(r: RawLocationAnswer) -> Eight
     ensures { λ w. ⌜ eightOf w ≡ rawLocationNext (toldRawLocation r) ⌝ }
 {
     match r {
-        RawLocAnswer::Entry(raw, walk) => entry_words(raw, walk.at as u64, walk.base_address),
-        RawLocAnswer::End(walk) => super::words::end_eight(walk.at as u64, walk.base_address),
-        RawLocAnswer::Refused(e, walk) => super::words::refused_eight(
+        RawLocationAnswer::Entry(raw, walk) => entry_words(raw, walk.at as u64, walk.base_address),
+        RawLocationAnswer::End(walk) => super::words::end_eight(walk.at as u64, walk.base_address),
+        RawLocationAnswer::Refused(e, walk) => super::words::refused_eight(
             walk.at as u64,
             walk.base_address,
             e,
@@ -155,21 +155,21 @@ pub fn convert(
     walk: Walk,
     encoding: Encoding,
     endian: RunTimeEndian,
-) -> LocConverted
+) -> LocationConverted
     ensures { λ r. ⌜ toldConvertedLocation r ≡ convertLocation encoding endian (now («debug_addr» .entry)) «debug_addr_base» walk code first second x ⌝ }
 {
     if 8 < code {
-        return LocConverted::Refused(Error::UnknownLocListsEntry(code), walk);
+        return LocationConverted::Refused(Error::UnknownLocListsEntry(code), walk);
     }
     let raw = entry_of(code, first, second, x);
     lists::loclists::convert_raw(raw, debug_addr, debug_addr_base, walk, encoding, endian)
 }
 
-pub fn converted_words(r: LocConverted) -> Eight
+pub fn converted_words(r: LocationConverted) -> Eight
     ensures { λ w. ⌜ eightOf w ≡ locationOutcome (toldConvertedLocation r) ⌝ }
 {
     match r {
-        LocConverted::Location(location, walk) => {
+        LocationConverted::Location(location, walk) => {
             let range = location.range;
             let data = location.data;
             Eight {
@@ -184,8 +184,11 @@ pub fn converted_words(r: LocConverted) -> Eight
                 h: 0,
             }
         }
-        LocConverted::Nothing(walk) => super::words::end_eight(walk.at as u64, walk.base_address),
-        LocConverted::Refused(e, walk) => super::words::refused_eight(
+        LocationConverted::Nothing(walk) => super::words::end_eight(
+            walk.at as u64,
+            walk.base_address,
+        ),
+        LocationConverted::Refused(e, walk) => super::words::refused_eight(
             walk.at as u64,
             walk.base_address,
             e,

@@ -9,9 +9,9 @@ use bytes::error::Error;
 use entries::RawRngListEntry;
 use lists::Opened;
 use lists::Walk;
-use lists::rnglists::RawRngAnswer;
-use lists::rnglists::RngAnswer;
-use lists::rnglists::RngConverted;
+use lists::rnglists::RangeAnswer;
+use lists::rnglists::RangeConverted;
+use lists::rnglists::RawRangeAnswer;
 use lookups::RangeFound;
 ghost use mathlib.Core.Path.{_≡_};
 ghost use Rattle.lists.specs.Open.{toldOpened};
@@ -35,19 +35,19 @@ pub fn opened_words(r: Opened) -> Four
     }
 }
 
-pub fn range_words(r: RngAnswer) -> Four
+pub fn range_words(r: RangeAnswer) -> Four
     ensures { λ w. ⌜ fourOf w ≡ rangeNext (toldNextRange r) ⌝ }
 {
     match r {
-        RngAnswer::Range(range, walk) => Four {
+        RangeAnswer::Range(range, walk) => Four {
             code: 0,
             a: walk.at as u64,
             b: walk.base_address,
             c: range.begin,
             d: range.end,
         },
-        RngAnswer::End(walk) => super::words::end_four(walk.at as u64, walk.base_address),
-        RngAnswer::Refused(e, walk) => super::words::refused_four(
+        RangeAnswer::End(walk) => super::words::end_four(walk.at as u64, walk.base_address),
+        RangeAnswer::Refused(e, walk) => super::words::refused_four(
             walk.at as u64,
             walk.base_address,
             e,
@@ -86,13 +86,13 @@ pub fn entry_words(raw: RawRngListEntry, at: u64, base: u64) -> Eight
     }
 }
 
-pub fn raw_words(r: RawRngAnswer) -> Eight
+pub fn raw_words(r: RawRangeAnswer) -> Eight
     ensures { λ w. ⌜ eightOf w ≡ rawRangeNext (toldRawRange r) ⌝ }
 {
     match r {
-        RawRngAnswer::Entry(raw, walk) => entry_words(raw, walk.at as u64, walk.base_address),
-        RawRngAnswer::End(walk) => super::words::end_eight(walk.at as u64, walk.base_address),
-        RawRngAnswer::Refused(e, walk) => super::words::refused_eight(
+        RawRangeAnswer::Entry(raw, walk) => entry_words(raw, walk.at as u64, walk.base_address),
+        RawRangeAnswer::End(walk) => super::words::end_eight(walk.at as u64, walk.base_address),
+        RawRangeAnswer::Refused(e, walk) => super::words::refused_eight(
             walk.at as u64,
             walk.base_address,
             e,
@@ -124,21 +124,21 @@ pub fn convert(
     walk: Walk,
     encoding: Encoding,
     endian: RunTimeEndian,
-) -> RngConverted
+) -> RangeConverted
     ensures { λ r. ⌜ toldConvertedRange r ≡ convertRange encoding endian (now («debug_addr» .entry)) «debug_addr_base» walk code first second ⌝ }
 {
     if 7 < code {
-        return RngConverted::Refused(Error::UnknownRangeListsEntry(code), walk);
+        return RangeConverted::Refused(Error::UnknownRangeListsEntry(code), walk);
     }
     let raw = entry_of(code, first, second);
     lists::rnglists::convert_raw(raw, debug_addr, debug_addr_base, walk, encoding, endian)
 }
 
-pub fn converted_words(r: RngConverted) -> Eight
+pub fn converted_words(r: RangeConverted) -> Eight
     ensures { λ w. ⌜ eightOf w ≡ rangeOutcome (toldConvertedRange r) ⌝ }
 {
     match r {
-        RngConverted::Range(range, walk) => Eight {
+        RangeConverted::Range(range, walk) => Eight {
             code: 0,
             a: walk.at as u64,
             b: walk.base_address,
@@ -149,8 +149,8 @@ pub fn converted_words(r: RngConverted) -> Eight
             g: 0,
             h: 0,
         },
-        RngConverted::Nothing(walk) => super::words::end_eight(walk.at as u64, walk.base_address),
-        RngConverted::Refused(e, walk) => super::words::refused_eight(
+        RangeConverted::Nothing(walk) => super::words::end_eight(walk.at as u64, walk.base_address),
+        RangeConverted::Refused(e, walk) => super::words::refused_eight(
             walk.at as u64,
             walk.base_address,
             e,

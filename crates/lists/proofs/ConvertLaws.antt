@@ -21,7 +21,7 @@ use Rattle.entries.specs.Forms.{Raw}
 use Rattle.entries.specs.declared.RawRngListEntry.{RawRngListEntry}
 use Rattle.entries.specs.Told.{found, ended, failed, stepOf}
 use Rattle.entries.proofs.StepLaws.{step-found, step-ended, step-failed}
-use Rattle.lists.specs.Open.{walkAt, opened, byVersion}
+use Rattle.lists.specs.Open.{walkAt, opened, sectionFor}
 use Rattle.lists.specs.Convert.{Turn, range, skip, told, bounded, offsets, looked, passedOf, convert}
 use Rattle.lists.specs.Walk.{Listing, onRaw, nextRaw, refuses, outcome, converted}
 use Rattle.lists.specs.declared.Walk.{Walk}
@@ -67,12 +67,12 @@ module _ (p : Encoding) (s : List ℕ) (offset base : ℕ) where
   opened-other h = simp h
 
 module _ (p : Encoding) (older newer : List ℕ) where
-  pub older-section : p .version ≤ 4 → byVersion p older newer ≡ older
-  unfolding byVersion
+  pub older-section : p .version ≤ 4 → sectionFor p older newer ≡ older
+  unfolding sectionFor
   older-section h = simp (le-leb _ _ h)
 
-  pub newer-section : 4 < p .version → byVersion p older newer ≡ newer
-  unfolding byVersion
+  pub newer-section : 4 < p .version → sectionFor p older newer ≡ newer
+  unfolding sectionFor
   newer-section h = simp (lt-leb _ _ h)
 
 -- a raw call

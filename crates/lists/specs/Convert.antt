@@ -64,7 +64,7 @@ passedOf (address.Refused e) = code.Refused e
 
 -- the address of an index, in the table that a list is read with
 abbrev pub tableAt : RunTimeEndian → Encoding → DebugAddrBase → List ℕ → DebugAddrIndex → Result ℕ
-tableAt endian p base table i = addressAt endian (p .«address_size») base i table
+tableAt endian encoding tableBase table i = addressAt endian (encoding .«address_size») tableBase i table
 
 -- by the address table's answers, the size and the base address; a begin is looked up before its end
 unfoldable pub convert : (DebugAddrIndex → Result ℕ) → ℕ → ℕ → RawRngListEntry → Turn

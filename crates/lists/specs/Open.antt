@@ -17,14 +17,14 @@ walkAt at base = record { at = at; «base_address» = base }
 
 -- an offset at the section's end opens an empty list; the address size is looked at first
 unfoldable pub opened : Encoding → List ℕ → ℕ → ℕ → Result Walk
-opened p s offset base =
-    pick (isSize (p .«address_size»)) (pick (leb offset (length s)) (gives (walkAt offset base)) (refusing UnexpectedEof))
-    (refusing (UnsupportedAddressSize (p .«address_size»)))
+opened encoding s offset base =
+    pick (isSize (encoding .«address_size»)) (pick (leb offset (length s)) (gives (walkAt offset base)) (refusing UnexpectedEof))
+    (refusing (UnsupportedAddressSize (encoding .«address_size»)))
 
 abbrev pub toldOpened : Opened → Result Walk
 toldOpened (answer.List w) = gives w
 toldOpened (answer.Refused e) = refusing e
 
 -- lists of version 5 and above stand in a section of their own (DWARF 5, 7.28 and 7.29)
-unfoldable pub byVersion : Encoding → List ℕ → List ℕ → List ℕ
-byVersion p older newer = pick (leb (p .version) 4) older newer
+unfoldable pub sectionFor : Encoding → List ℕ → List ℕ → List ℕ
+sectionFor encoding older newer = pick (leb (encoding .version) 4) older newer

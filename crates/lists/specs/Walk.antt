@@ -21,18 +21,18 @@ use Rattle.entries.specs.declared.RawLocListEntry.{RawLocListEntry}
 use Rattle.lists.specs.Open.{walkAt}
 use Rattle.lists.specs.Convert.{Turn, range, rebase, skip, missing, convert, tableAt, bounds, expressionOf}
 use Rattle.lists.specs.declared.Walk.{Walk}
-use Rattle.lists.specs.declared.rnglists.RawRngAnswer.{RawRngAnswer}
-use Rattle.lists.specs.declared.rnglists.RawRngAnswer.the-variants as rawRng
-use Rattle.lists.specs.declared.rnglists.RngConverted.{RngConverted}
-use Rattle.lists.specs.declared.rnglists.RngConverted.the-variants as convertedRng
-use Rattle.lists.specs.declared.rnglists.RngAnswer.{RngAnswer}
-use Rattle.lists.specs.declared.rnglists.RngAnswer.the-variants as rng
-use Rattle.lists.specs.declared.loclists.RawLocAnswer.{RawLocAnswer}
-use Rattle.lists.specs.declared.loclists.RawLocAnswer.the-variants as rawLoc
-use Rattle.lists.specs.declared.loclists.LocConverted.{LocConverted}
-use Rattle.lists.specs.declared.loclists.LocConverted.the-variants as convertedLoc
-use Rattle.lists.specs.declared.loclists.LocAnswer.{LocAnswer}
-use Rattle.lists.specs.declared.loclists.LocAnswer.the-variants as loc
+use Rattle.lists.specs.declared.rnglists.RawRangeAnswer.{RawRangeAnswer}
+use Rattle.lists.specs.declared.rnglists.RawRangeAnswer.the-variants as rawRng
+use Rattle.lists.specs.declared.rnglists.RangeConverted.{RangeConverted}
+use Rattle.lists.specs.declared.rnglists.RangeConverted.the-variants as convertedRng
+use Rattle.lists.specs.declared.rnglists.RangeAnswer.{RangeAnswer}
+use Rattle.lists.specs.declared.rnglists.RangeAnswer.the-variants as rng
+use Rattle.lists.specs.declared.loclists.RawLocationAnswer.{RawLocationAnswer}
+use Rattle.lists.specs.declared.loclists.RawLocationAnswer.the-variants as rawLoc
+use Rattle.lists.specs.declared.loclists.LocationConverted.{LocationConverted}
+use Rattle.lists.specs.declared.loclists.LocationConverted.the-variants as convertedLoc
+use Rattle.lists.specs.declared.loclists.LocationAnswer.{LocationAnswer}
+use Rattle.lists.specs.declared.loclists.LocationAnswer.the-variants as loc
 
 -- a list's entries: how one is read at a place, its bounds, and what else it carries
 pub record Listing : Type 1 where
@@ -56,14 +56,14 @@ carriedIn true e = expressionOf e
 carriedIn false e = tt
 
 abbrev pub listed : Bool → Bool → Encoding → RunTimeEndian → List ℕ → Listing
-listed l split p endian s =
-    record { Entry = EntryIn l; Carried = CarriedIn l; read = readIn l split p endian s; boundsOf = boundsIn l; carried = carriedIn l }
+listed l split encoding endian s =
+    record { Entry = EntryIn l; Carried = CarriedIn l; read = readIn l split encoding endian s; boundsOf = boundsIn l; carried = carriedIn l }
 
 abbrev pub ranges : Encoding → RunTimeEndian → List ℕ → Listing
-ranges p endian s = listed false false p endian s
+ranges encoding endian s = listed false false encoding endian s
 
 abbrev pub locations : Bool → Encoding → RunTimeEndian → List ℕ → Listing
-locations split p endian s = listed true split p endian s
+locations split encoding endian s = listed true split encoding endian s
 
 -- a range with what it carries
 pub data Item (D : Type 0) : Type 0 where
@@ -143,58 +143,58 @@ convertRaw l table size w e = converted table size w (l .carried e) (l .boundsOf
 
 -- both lists' calls, from the section, the address table, its base and the walk
 abbrev pub nextOf : (l : Bool) → Bool → Encoding → RunTimeEndian → List ℕ → List ℕ → DebugAddrBase → Walk → Next (Item (CarriedIn l)) Walk
-nextOf l split p endian s table base w =
-    next (listed l split p endian s) (tableAt endian p base table) (p .«address_size») (length s) w
+nextOf l split encoding endian s table tableBase w =
+    next (listed l split encoding endian s) (tableAt endian encoding tableBase table) (encoding .«address_size») (length s) w
 
 abbrev pub nextRawOf : (l : Bool) → Bool → Encoding → RunTimeEndian → List ℕ → Walk → Next (EntryIn l) Walk
-nextRawOf l split p endian s w = nextRaw (listed l split p endian s) (p .«address_size») (length s) w
+nextRawOf l split encoding endian s w = nextRaw (listed l split encoding endian s) (encoding .«address_size») (length s) w
 
 -- each list's calls
 abbrev pub nextRange : Encoding → RunTimeEndian → List ℕ → List ℕ → DebugAddrBase → Walk → Next (Item Unit) Walk
-nextRange p endian s table base w = nextOf false false p endian s table base w
+nextRange encoding endian s table tableBase w = nextOf false false encoding endian s table tableBase w
 
 abbrev pub nextRawRange : Encoding → RunTimeEndian → List ℕ → Walk → Next RawRngListEntry Walk
-nextRawRange p endian s w = nextRawOf false false p endian s w
+nextRawRange encoding endian s w = nextRawOf false false encoding endian s w
 
 abbrev pub convertedRange : Encoding → RunTimeEndian → List ℕ → DebugAddrBase → Walk → RawRngListEntry → Outcome Unit
-convertedRange p endian table base w e = convertRaw (ranges p endian table) (tableAt endian p base table) (p .«address_size») w e
+convertedRange encoding endian table tableBase w e = convertRaw (ranges encoding endian table) (tableAt endian encoding tableBase table) (encoding .«address_size») w e
 
 abbrev pub nextLocation : Bool → Encoding → RunTimeEndian → List ℕ → List ℕ → DebugAddrBase → Walk → Next (Item Expression) Walk
-nextLocation split p endian s table base w = nextOf true split p endian s table base w
+nextLocation split encoding endian s table tableBase w = nextOf true split encoding endian s table tableBase w
 
 abbrev pub nextRawLocation : Bool → Encoding → RunTimeEndian → List ℕ → Walk → Next RawLocListEntry Walk
-nextRawLocation split p endian s w = nextRawOf true split p endian s w
+nextRawLocation split encoding endian s w = nextRawOf true split encoding endian s w
 
 abbrev pub convertedLocation : Encoding → RunTimeEndian → List ℕ → DebugAddrBase → Walk → RawLocListEntry → Outcome Expression
-convertedLocation p endian table base w e = convertRaw (locations false p endian table) (tableAt endian p base table) (p .«address_size») w e
+convertedLocation encoding endian table tableBase w e = convertRaw (locations false encoding endian table) (tableAt endian encoding tableBase table) (encoding .«address_size») w e
 
 -- the code's answers told so
-abbrev pub toldRawRange : RawRngAnswer → Next RawRngListEntry Walk
+abbrev pub toldRawRange : RawRangeAnswer → Next RawRngListEntry Walk
 toldRawRange (rawRng.Entry e w) = yields e w
 toldRawRange (rawRng.End w) = ends w
 toldRawRange (rawRng.Refused e w) = stopped e w
 
-abbrev pub toldConvertedRange : RngConverted → Outcome Unit
+abbrev pub toldConvertedRange : RangeConverted → Outcome Unit
 toldConvertedRange (convertedRng.Range r w) = gives (item (r .begin) (r .end) tt) w
 toldConvertedRange (convertedRng.Nothing w) = nothing w
 toldConvertedRange (convertedRng.Refused e w) = refuses (number e) (values e) w
 
-abbrev pub toldNextRange : RngAnswer → Next (Item Unit) Walk
+abbrev pub toldNextRange : RangeAnswer → Next (Item Unit) Walk
 toldNextRange (rng.Range r w) = yields (item (r .begin) (r .end) tt) w
 toldNextRange (rng.End w) = ends w
 toldNextRange (rng.Refused e w) = stopped e w
 
-abbrev pub toldRawLocation : RawLocAnswer → Next RawLocListEntry Walk
+abbrev pub toldRawLocation : RawLocationAnswer → Next RawLocListEntry Walk
 toldRawLocation (rawLoc.Entry e w) = yields e w
 toldRawLocation (rawLoc.End w) = ends w
 toldRawLocation (rawLoc.Refused e w) = stopped e w
 
-abbrev pub toldConvertedLocation : LocConverted → Outcome Expression
+abbrev pub toldConvertedLocation : LocationConverted → Outcome Expression
 toldConvertedLocation (convertedLoc.Location x w) = gives (item (x .range .begin) (x .range .end) (x .«data»)) w
 toldConvertedLocation (convertedLoc.Nothing w) = nothing w
 toldConvertedLocation (convertedLoc.Refused e w) = refuses (number e) (values e) w
 
-abbrev pub toldNextLocation : LocAnswer → Next (Item Expression) Walk
+abbrev pub toldNextLocation : LocationAnswer → Next (Item Expression) Walk
 toldNextLocation (loc.Location x w) = yields (item (x .range .begin) (x .range .end) (x .«data»)) w
 toldNextLocation (loc.End w) = ends w
 toldNextLocation (loc.Refused e w) = stopped e w

@@ -1,4 +1,4 @@
-// Walking range lists and location lists: raw entries, conversion, the next range or location, lookup.
+// Walking range lists and location lists: opening, raw entries, conversion, the next range or location.
 pub mod convert;
 pub mod listed;
 pub mod loclists;

@@ -3,15 +3,15 @@
 use super::LocationListEntry;
 use super::Walk;
 use super::convert::Converted;
-use super::loclists::LocAnswer;
-use super::loclists::LocConverted;
-use super::loclists::RawLocAnswer;
+use super::loclists::LocationAnswer;
+use super::loclists::LocationConverted;
+use super::loclists::RawLocationAnswer;
 use bytes::common::DebugAddrBase;
 use bytes::common::Encoding;
 use bytes::endianity::RunTimeEndian;
 use bytes::error::Error;
 use entries::Expression;
-use entries::LocStep;
+use entries::LocationStep;
 use entries::RawRngListEntry;
 ghost use mathlib.Core.Path.{_≡_};
 ghost use Rattle.lists.specs.Convert.{tableAt};
@@ -26,7 +26,7 @@ pub fn next_raw(
     endian: RunTimeEndian,
     locations: bool,
     split: bool,
-) -> RawLocAnswer
+) -> RawLocationAnswer
     ensures { λ r. ⌜ nextRawIn locations (toldRawLocation r) ≡ nextRawOf locations split encoding endian (now (section .entry)) walk ⌝ }
 {
     let at = walk.at;
@@ -34,21 +34,21 @@ pub fn next_raw(
     let size = encoding.address_size as u64;
     if bytes::reader::is_address_size(size) {
         if section.len() <= at {
-            return RawLocAnswer::End(walk);
+            return RawLocationAnswer::End(walk);
         }
         return match entries::raw::raw_entry(section, at, encoding, endian, locations, split) {
-            LocStep::Entry(raw, c) => RawLocAnswer::Entry(
+            LocationStep::Entry(raw, c) => RawLocationAnswer::Entry(
                 raw,
                 Walk {
                     at: c,
                     base_address,
                 },
             ),
-            LocStep::End => RawLocAnswer::End(Walk {
+            LocationStep::End => RawLocationAnswer::End(Walk {
                 at: section.len(),
                 base_address,
             }),
-            LocStep::Refused(e) => RawLocAnswer::Refused(
+            LocationStep::Refused(e) => RawLocationAnswer::Refused(
                 e,
                 Walk {
                     at: section.len(),
@@ -57,7 +57,7 @@ pub fn next_raw(
             ),
         };
     }
-    RawLocAnswer::Refused(
+    RawLocationAnswer::Refused(
         Error::UnsupportedAddressSize(size),
         Walk {
             at: section.len(),
@@ -76,7 +76,7 @@ pub fn convert_raw(
     walk: Walk,
     encoding: Encoding,
     endian: RunTimeEndian,
-) -> LocConverted
+) -> LocationConverted
     ensures { λ r. ⌜ toldConvertedLocation r ≡ converted (tableAt endian encoding «debug_addr_base» (now («debug_addr» .entry))) (encoding .«address_size») walk «data» bounds ⌝ }
 {
     let at = walk.at;
@@ -90,16 +90,16 @@ pub fn convert_raw(
             encoding,
             endian,
         ) {
-            Converted::Range(range) => LocConverted::Location(
+            Converted::Range(range) => LocationConverted::Location(
                 LocationListEntry { range, data },
                 walk,
             ),
-            Converted::Base(base_address) => LocConverted::Nothing(Walk { at, base_address }),
-            Converted::Skip => LocConverted::Nothing(walk),
-            Converted::Refused(e) => LocConverted::Refused(e, walk),
+            Converted::Base(base_address) => LocationConverted::Nothing(Walk { at, base_address }),
+            Converted::Skip => LocationConverted::Nothing(walk),
+            Converted::Refused(e) => LocationConverted::Refused(e, walk),
         };
     }
-    LocConverted::Refused(Error::UnsupportedAddressSize(size), walk)
+    LocationConverted::Refused(Error::UnsupportedAddressSize(size), walk)
 }
 
 // The next item: 6 with the size before all else, then the refusals of an entry, which empty the walk, and of the
@@ -113,7 +113,7 @@ pub fn next(
     endian: RunTimeEndian,
     locations: bool,
     split: bool,
-) -> LocAnswer
+) -> LocationAnswer
     ensures { λ r. ⌜ nextIn locations (toldNextLocation r) ≡ nextOf locations split encoding endian (now (section .entry)) (now («debug_addr» .entry)) «debug_addr_base» walk ⌝ }
 {
     let mut at = walk.at;
@@ -122,8 +122,8 @@ pub fn next(
     if bytes::reader::is_address_size(size) {
         while at < section.len() {
             match entries::raw::raw_entry(section, at, encoding, endian, locations, split) {
-                LocStep::Refused(e) => {
-                    return LocAnswer::Refused(
+                LocationStep::Refused(e) => {
+                    return LocationAnswer::Refused(
                         e,
                         Walk {
                             at: section.len(),
@@ -131,13 +131,13 @@ pub fn next(
                         },
                     );
                 }
-                LocStep::End => {
-                    return LocAnswer::End(Walk {
+                LocationStep::End => {
+                    return LocationAnswer::End(Walk {
                         at: section.len(),
                         base_address,
                     });
                 }
-                LocStep::Entry(raw, c) => {
+                LocationStep::Entry(raw, c) => {
                     let after = Walk {
                         at: c,
                         base_address,
@@ -153,10 +153,13 @@ pub fn next(
                         endian,
                     ) {
                         Converted::Range(range) => {
-                            return LocAnswer::Location(LocationListEntry { range, data }, after);
+                            return LocationAnswer::Location(
+                                LocationListEntry { range, data },
+                                after,
+                            );
                         }
                         Converted::Refused(e) => {
-                            return LocAnswer::Refused(e, after);
+                            return LocationAnswer::Refused(e, after);
                         }
                         Converted::Base(b) => {
                             base_address = b;
@@ -167,9 +170,9 @@ pub fn next(
                 }
             }
         }
-        LocAnswer::End(Walk { at, base_address })
+        LocationAnswer::End(Walk { at, base_address })
     } else {
-        LocAnswer::Refused(
+        LocationAnswer::Refused(
             Error::UnsupportedAddressSize(size),
             Walk {
                 at: section.len(),

@@ -10,13 +10,13 @@ use bytes::error::Error;
 use entries::Expression;
 use entries::RawLocListEntry;
 ghost use mathlib.Core.Path.{_≡_};
-ghost use Rattle.lists.specs.Open.{toldOpened, opened, byVersion};
+ghost use Rattle.lists.specs.Open.{toldOpened, opened, sectionFor};
 ghost use Rattle.bytes.specs.Reader.{partOf};
 ghost use Rattle.lists.specs.Walk.{toldRawLocation, nextRawLocation, toldConvertedLocation, convertedLocation, toldNextLocation, nextLocation};
 
 // The section that the lists of a version stand in.
 pub fn section<'a>(debug_loc: &'a [u8], debug_loclists: &'a [u8], encoding: Encoding) -> &'a [u8]
-    ensures { λ r. ⌜ now r ≡ byVersion encoding (now («debug_loc» .entry)) (now («debug_loclists» .entry)) ⌝ }
+    ensures { λ r. ⌜ now r ≡ sectionFor encoding (now («debug_loc» .entry)) (now («debug_loclists» .entry)) ⌝ }
 {
     if encoding.version <= 4 {
         return debug_loc;
@@ -43,7 +43,7 @@ pub fn raw_locations(section: &[u8], offset: LocationListsOffset, encoding: Enco
     super::open::open(section, offset.0, encoding, 0)
 }
 
-pub enum RawLocAnswer {
+pub enum RawLocationAnswer {
     Entry(RawLocListEntry, Walk),
     End(Walk),
     Refused(Error, Walk),
@@ -57,13 +57,13 @@ pub fn next_raw(
     encoding: Encoding,
     endian: RunTimeEndian,
     split: bool,
-) -> RawLocAnswer
+) -> RawLocationAnswer
     ensures { λ r. ⌜ toldRawLocation r ≡ nextRawLocation split encoding endian (now (section .entry)) walk ⌝ }
 {
     super::listed::next_raw(section, walk, encoding, endian, true, split)
 }
 
-pub enum LocConverted {
+pub enum LocationConverted {
     Location(LocationListEntry, Walk),
     Nothing(Walk),
     Refused(Error, Walk),
@@ -78,7 +78,7 @@ pub fn convert_raw(
     walk: Walk,
     encoding: Encoding,
     endian: RunTimeEndian,
-) -> LocConverted
+) -> LocationConverted
     ensures { λ r. ⌜ toldConvertedLocation r ≡ convertedLocation encoding endian (now («debug_addr» .entry)) «debug_addr_base» walk raw ⌝ }
 {
     let bounds = entries::raw::bounds_of(raw);
@@ -94,7 +94,7 @@ pub fn convert_raw(
     )
 }
 
-pub enum LocAnswer {
+pub enum LocationAnswer {
     Location(LocationListEntry, Walk),
     End(Walk),
     Refused(Error, Walk),
@@ -110,7 +110,7 @@ pub fn next(
     encoding: Encoding,
     endian: RunTimeEndian,
     split: bool,
-) -> LocAnswer
+) -> LocationAnswer
     ensures { λ r. ⌜ toldNextLocation r ≡ nextLocation split encoding endian (now (section .entry)) (now («debug_addr» .entry)) «debug_addr_base» walk ⌝ }
 {
     super::listed::next(

@@ -2,9 +2,9 @@
 use super::Opened;
 use super::Range;
 use super::Walk;
-use super::loclists::LocAnswer;
-use super::loclists::LocConverted;
-use super::loclists::RawLocAnswer;
+use super::loclists::LocationAnswer;
+use super::loclists::LocationConverted;
+use super::loclists::RawLocationAnswer;
 use bytes::common::DebugAddrBase;
 use bytes::common::Encoding;
 use bytes::common::RangeListsOffset;
@@ -13,12 +13,12 @@ use bytes::error::Error;
 use entries::Expression;
 use entries::RawRngListEntry;
 ghost use mathlib.Core.Path.{_≡_};
-ghost use Rattle.lists.specs.Open.{toldOpened, opened, byVersion};
+ghost use Rattle.lists.specs.Open.{toldOpened, opened, sectionFor};
 ghost use Rattle.lists.specs.Walk.{toldRawRange, nextRawRange, toldConvertedRange, convertedRange, toldNextRange, nextRange};
 
 // The section that the lists of a version stand in.
 pub fn section<'a>(debug_ranges: &'a [u8], debug_rnglists: &'a [u8], encoding: Encoding) -> &'a [u8]
-    ensures { λ r. ⌜ now r ≡ byVersion encoding (now («debug_ranges» .entry)) (now («debug_rnglists» .entry)) ⌝ }
+    ensures { λ r. ⌜ now r ≡ sectionFor encoding (now («debug_ranges» .entry)) (now («debug_rnglists» .entry)) ⌝ }
 {
     if encoding.version <= 4 {
         return debug_ranges;
@@ -45,7 +45,7 @@ pub fn raw_ranges(section: &[u8], offset: RangeListsOffset, encoding: Encoding) 
     super::open::open(section, offset.0, encoding, 0)
 }
 
-pub enum RawRngAnswer {
+pub enum RawRangeAnswer {
     Entry(RawRngListEntry, Walk),
     End(Walk),
     Refused(Error, Walk),
@@ -58,17 +58,20 @@ pub fn next_raw(
     walk: Walk,
     encoding: Encoding,
     endian: RunTimeEndian,
-) -> RawRngAnswer
+) -> RawRangeAnswer
     ensures { λ r. ⌜ toldRawRange r ≡ nextRawRange encoding endian (now (section .entry)) walk ⌝ }
 {
     match super::listed::next_raw(section, walk, encoding, endian, false, false) {
-        RawLocAnswer::Entry(raw, after) => RawRngAnswer::Entry(entries::raw::bounds_of(raw), after),
-        RawLocAnswer::End(after) => RawRngAnswer::End(after),
-        RawLocAnswer::Refused(e, after) => RawRngAnswer::Refused(e, after),
+        RawLocationAnswer::Entry(raw, after) => RawRangeAnswer::Entry(
+            entries::raw::bounds_of(raw),
+            after,
+        ),
+        RawLocationAnswer::End(after) => RawRangeAnswer::End(after),
+        RawLocationAnswer::Refused(e, after) => RawRangeAnswer::Refused(e, after),
     }
 }
 
-pub enum RngConverted {
+pub enum RangeConverted {
     Range(Range, Walk),
     Nothing(Walk),
     Refused(Error, Walk),
@@ -83,7 +86,7 @@ pub fn convert_raw(
     walk: Walk,
     encoding: Encoding,
     endian: RunTimeEndian,
-) -> RngConverted
+) -> RangeConverted
     ensures { λ r. ⌜ toldConvertedRange r ≡ convertedRange encoding endian (now («debug_addr» .entry)) «debug_addr_base» walk raw ⌝ }
 {
     match super::listed::convert_raw(
@@ -95,16 +98,16 @@ pub fn convert_raw(
         encoding,
         endian,
     ) {
-        LocConverted::Location(x, after) => {
+        LocationConverted::Location(x, after) => {
             let range = x.range;
-            RngConverted::Range(range, after)
+            RangeConverted::Range(range, after)
         }
-        LocConverted::Nothing(after) => RngConverted::Nothing(after),
-        LocConverted::Refused(e, after) => RngConverted::Refused(e, after),
+        LocationConverted::Nothing(after) => RangeConverted::Nothing(after),
+        LocationConverted::Refused(e, after) => RangeConverted::Refused(e, after),
     }
 }
 
-pub enum RngAnswer {
+pub enum RangeAnswer {
     Range(Range, Walk),
     End(Walk),
     Refused(Error, Walk),
@@ -119,7 +122,7 @@ pub fn next(
     walk: Walk,
     encoding: Encoding,
     endian: RunTimeEndian,
-) -> RngAnswer
+) -> RangeAnswer
     ensures { λ r. ⌜ toldNextRange r ≡ nextRange encoding endian (now (section .entry)) (now («debug_addr» .entry)) «debug_addr_base» walk ⌝ }
 {
     match super::listed::next(
@@ -132,11 +135,11 @@ pub fn next(
         false,
         false,
     ) {
-        LocAnswer::Location(x, after) => {
+        LocationAnswer::Location(x, after) => {
             let range = x.range;
-            RngAnswer::Range(range, after)
+            RangeAnswer::Range(range, after)
         }
-        LocAnswer::End(after) => RngAnswer::End(after),
-        LocAnswer::Refused(e, after) => RngAnswer::Refused(e, after),
+        LocationAnswer::End(after) => RangeAnswer::End(after),
+        LocationAnswer::Refused(e, after) => RangeAnswer::Refused(e, after),
     }
 }

@@ -41,22 +41,22 @@ fromOpening f (refuses n vs) = refused n vs
 
 -- both lists' lookups from a walk on, by whether the list holds locations
 abbrev pub lookupFrom : (l : Bool) → Bool → Encoding → RunTimeEndian → List ℕ → List ℕ → DebugAddrBase → ℕ → Walk → Found (CarriedIn l)
-lookupFrom l split p endian s table base a w =
-    lookupIn a (trace (listed l split p endian s) (tableAt endian p base table) (p .«address_size») (length s) w)
+lookupFrom l split encoding endian s table tableBase a w =
+    lookupIn a (trace (listed l split encoding endian s) (tableAt endian encoding tableBase table) (encoding .«address_size») (length s) w)
 
 abbrev pub lookupRangeFrom : Encoding → RunTimeEndian → List ℕ → List ℕ → DebugAddrBase → ℕ → Walk → Found Unit
-lookupRangeFrom p endian s table base a w = lookupFrom false false p endian s table base a w
+lookupRangeFrom encoding endian s table tableBase a w = lookupFrom false false encoding endian s table tableBase a w
 
 abbrev pub lookupRange : Encoding → RunTimeEndian → List ℕ → List ℕ → DebugAddrBase → ℕ → ℕ → ℕ → Found Unit
-lookupRange p endian s table tableBase offset base a =
-    fromOpening (lookupRangeFrom p endian s table tableBase a) (opened p s offset base)
+lookupRange encoding endian s table tableBase offset base a =
+    fromOpening (lookupRangeFrom encoding endian s table tableBase a) (opened encoding s offset base)
 
 abbrev pub lookupLocationFrom : Bool → Encoding → RunTimeEndian → List ℕ → List ℕ → DebugAddrBase → ℕ → Walk → Found Expression
-lookupLocationFrom split p endian s table base a w = lookupFrom true split p endian s table base a w
+lookupLocationFrom split encoding endian s table tableBase a w = lookupFrom true split encoding endian s table tableBase a w
 
 abbrev pub lookupLocation : Bool → Encoding → RunTimeEndian → List ℕ → List ℕ → DebugAddrBase → ℕ → ℕ → ℕ → Found Expression
-lookupLocation split p endian s table tableBase offset base a =
-    fromOpening (lookupLocationFrom split p endian s table tableBase a) (opened p s offset base)
+lookupLocation split encoding endian s table tableBase offset base a =
+    fromOpening (lookupLocationFrom split encoding endian s table tableBase a) (opened encoding s offset base)
 
 abbrev pub toldRange : RangeFound → Found Unit
 toldRange (range.Found r) = found (item (r .begin) (r .end) tt)

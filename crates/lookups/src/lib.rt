@@ -9,7 +9,7 @@ use lists::LocationListEntry;
 use lists::Opened;
 use lists::Range;
 use lists::Walk;
-use lists::loclists::LocAnswer;
+use lists::loclists::LocationAnswer;
 ghost use mathlib.Core.Path.{_≡_};
 ghost use mathlib.Core.Bool.{true, false};
 ghost use Rattle.bytes.specs.Reader.{isSize};
@@ -65,17 +65,17 @@ fn found_from(
             locations,
             split,
         ) {
-            LocAnswer::Location(location, after) => {
+            LocationAnswer::Location(location, after) => {
                 let range = location.range;
                 if holds(range, address) {
                     return LocationFound::Found(location);
                 }
                 walk = after;
             }
-            LocAnswer::End(_) => {
+            LocationAnswer::End(_) => {
                 return LocationFound::NotThere;
             }
-            LocAnswer::Refused(e, _) => {
+            LocationAnswer::Refused(e, _) => {
                 return LocationFound::Refused(e);
             }
         }

@@ -8,9 +8,9 @@ use bytes::common::DebugAddrBase;
 use bytes::common::LocationListsOffset;
 use entries::RawLocListEntry;
 use lists::Walk;
-use lists::loclists::LocAnswer;
-use lists::loclists::LocConverted;
-use lists::loclists::RawLocAnswer;
+use lists::loclists::LocationAnswer;
+use lists::loclists::LocationConverted;
+use lists::loclists::RawLocationAnswer;
 use lookups::LocationFound;
 
 // All but a default location are told by their bounds.
@@ -29,11 +29,11 @@ fn is_split(call: Call) -> bool {
     8 <= call.what
 }
 
-fn next_answer(r: LocAnswer) -> Turn {
+fn next_answer(r: LocationAnswer) -> Turn {
     match r {
-        LocAnswer::Location(x, after) => show::location(x, after),
-        LocAnswer::End(after) => show::ended(after),
-        LocAnswer::Refused(e, after) => show::refused_at(e, after),
+        LocationAnswer::Location(x, after) => show::location(x, after),
+        LocationAnswer::End(after) => show::ended(after),
+        LocationAnswer::Refused(e, after) => show::refused_at(e, after),
     }
 }
 
@@ -45,11 +45,11 @@ pub(crate) fn next(section: &[u8], table: &[u8], call: Call, walk: Walk) -> Turn
     next_answer(lists::loclists::next(section, table, base, walk, encoding, endian, split))
 }
 
-fn converted(r: LocConverted) -> Turn {
+fn converted(r: LocationConverted) -> Turn {
     match r {
-        LocConverted::Location(x, after) => show::location(x, after),
-        LocConverted::Nothing(after) => show::nothing(after),
-        LocConverted::Refused(e, after) => show::refused_at(e, after),
+        LocationConverted::Location(x, after) => show::location(x, after),
+        LocationConverted::Nothing(after) => show::nothing(after),
+        LocationConverted::Refused(e, after) => show::refused_at(e, after),
     }
 }
 
@@ -67,11 +67,11 @@ fn raw_entry(raw: RawLocListEntry, walk: Walk) -> Turn {
     show::stands(walk)
 }
 
-fn raw_answer(r: RawLocAnswer) -> Turn {
+fn raw_answer(r: RawLocationAnswer) -> Turn {
     match r {
-        RawLocAnswer::Entry(raw, after) => raw_entry(raw, after),
-        RawLocAnswer::End(after) => show::ended(after),
-        RawLocAnswer::Refused(e, after) => show::refused_at(e, after),
+        RawLocationAnswer::Entry(raw, after) => raw_entry(raw, after),
+        RawLocationAnswer::End(after) => show::ended(after),
+        RawLocationAnswer::Refused(e, after) => show::refused_at(e, after),
     }
 }
 
@@ -89,7 +89,7 @@ pub(crate) fn next_converted(section: &[u8], table: &[u8], call: Call, walk: Wal
     let split = is_split(call);
     let r = lists::loclists::next_raw(section, walk, encoding, endian, split);
     let turn = raw_answer(r);
-    let RawLocAnswer::Entry(raw, after) = r else {
+    let RawLocationAnswer::Entry(raw, after) = r else {
         return turn;
     };
     convert(raw, table, call, after)

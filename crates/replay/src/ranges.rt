@@ -7,9 +7,9 @@ use bytes::common::DebugAddrBase;
 use bytes::common::RangeListsOffset;
 use entries::RawRngListEntry;
 use lists::Walk;
-use lists::rnglists::RawRngAnswer;
-use lists::rnglists::RngAnswer;
-use lists::rnglists::RngConverted;
+use lists::rnglists::RangeAnswer;
+use lists::rnglists::RangeConverted;
+use lists::rnglists::RawRangeAnswer;
 use lookups::RangeFound;
 
 pub(crate) fn form(x: RawRngListEntry) -> Form {
@@ -33,11 +33,11 @@ pub(crate) fn form(x: RawRngListEntry) -> Form {
     }
 }
 
-fn next_answer(r: RngAnswer) -> Turn {
+fn next_answer(r: RangeAnswer) -> Turn {
     match r {
-        RngAnswer::Range(x, after) => show::range(x, after),
-        RngAnswer::End(after) => show::ended(after),
-        RngAnswer::Refused(e, after) => show::refused_at(e, after),
+        RangeAnswer::Range(x, after) => show::range(x, after),
+        RangeAnswer::End(after) => show::ended(after),
+        RangeAnswer::Refused(e, after) => show::refused_at(e, after),
     }
 }
 
@@ -48,11 +48,11 @@ pub(crate) fn next(section: &[u8], table: &[u8], call: Call, walk: Walk) -> Turn
     next_answer(lists::rnglists::next(section, table, base, walk, encoding, endian))
 }
 
-fn converted(r: RngConverted) -> Turn {
+fn converted(r: RangeConverted) -> Turn {
     match r {
-        RngConverted::Range(x, after) => show::range(x, after),
-        RngConverted::Nothing(after) => show::nothing(after),
-        RngConverted::Refused(e, after) => show::refused_at(e, after),
+        RangeConverted::Range(x, after) => show::range(x, after),
+        RangeConverted::Nothing(after) => show::nothing(after),
+        RangeConverted::Refused(e, after) => show::refused_at(e, after),
     }
 }
 
@@ -68,11 +68,11 @@ fn raw_entry(raw: RawRngListEntry, walk: Walk) -> Turn {
     show::stands(walk)
 }
 
-fn raw_answer(r: RawRngAnswer) -> Turn {
+fn raw_answer(r: RawRangeAnswer) -> Turn {
     match r {
-        RawRngAnswer::Entry(raw, after) => raw_entry(raw, after),
-        RawRngAnswer::End(after) => show::ended(after),
-        RawRngAnswer::Refused(e, after) => show::refused_at(e, after),
+        RawRangeAnswer::Entry(raw, after) => raw_entry(raw, after),
+        RawRangeAnswer::End(after) => show::ended(after),
+        RawRangeAnswer::Refused(e, after) => show::refused_at(e, after),
     }
 }
 
@@ -88,7 +88,7 @@ pub(crate) fn next_converted(section: &[u8], table: &[u8], call: Call, walk: Wal
     let endian = call.endian;
     let r = lists::rnglists::next_raw(section, walk, encoding, endian);
     let turn = raw_answer(r);
-    let RawRngAnswer::Entry(raw, after) = r else {
+    let RawRangeAnswer::Entry(raw, after) = r else {
         return turn;
     };
     convert(raw, table, call, after)

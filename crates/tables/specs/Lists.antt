@@ -49,12 +49,12 @@ listsHeader endian s at =
 
 -- unit_length, version, address_size, segment_selector_size, offset_entry_count
 abbrev pub headerSize : Encoding → ℕ
-headerSize p = initialLengthSize (p .format) + 8
+headerSize encoding = initialLengthSize (encoding .format) + 8
 
 -- split files leave out the attribute that says where the offsets begin: there it is after the header (gimli's rule)
 abbrev pub baseIn : Encoding → DwarfFileType → ℕ
-baseIn p Main = 0
-baseIn p Dwo = headerSize p
+baseIn encoding Main = 0
+baseIn encoding Dwo = headerSize encoding
 
 unfoldable pub defaultBase : Encoding → DwarfFileType → ℕ
-defaultBase p file = pick (leb 5 (p .version)) (baseIn p file) 0
+defaultBase encoding file = pick (leb 5 (encoding .version)) (baseIn encoding file) 0

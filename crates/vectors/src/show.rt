@@ -5,10 +5,10 @@ use bytes::Place;
 use bytes::Split;
 use bytes::error::Error;
 use entries::Expression;
-use entries::LocStep;
+use entries::LocationStep;
+use entries::RangeStep;
 use entries::RawLocListEntry;
 use entries::RawRngListEntry;
-use entries::RngStep;
 use libc::STDOUT_FILENO;
 use tables::addr::AddrHeaderAnswer;
 use tables::addr::AddressAnswer;
@@ -207,15 +207,15 @@ fn range_entry(x: RawRngListEntry) {
     }
 }
 
-pub(crate) fn range(label: &[u8], r: RngStep) {
+pub(crate) fn range(label: &[u8], r: RangeStep) {
     say(label);
     match r {
-        RngStep::Entry(x, c) => {
+        RangeStep::Entry(x, c) => {
             range_entry(x);
             next(c);
         }
-        RngStep::End => say(b" end"),
-        RngStep::Refused(e) => refused(e),
+        RangeStep::End => say(b" end"),
+        RangeStep::Refused(e) => refused(e),
     }
     end_line();
 }
@@ -237,15 +237,15 @@ fn location_entry(x: RawLocListEntry) {
     }
 }
 
-pub(crate) fn location(label: &[u8], r: LocStep) {
+pub(crate) fn location(label: &[u8], r: LocationStep) {
     say(label);
     match r {
-        LocStep::Entry(x, c) => {
+        LocationStep::Entry(x, c) => {
             location_entry(x);
             next(c);
         }
-        LocStep::End => say(b" end"),
-        LocStep::Refused(e) => refused(e),
+        LocationStep::End => say(b" end"),
+        LocationStep::Refused(e) => refused(e),
     }
     end_line();
 }

@@ -37,11 +37,11 @@ enum-known-r c = search needs
 enum-told-2 : tie.Need-enum-told-2
 enum-told-2 c = search needs
 
-passed-data-requires : tie.Need-passed-data-requires
-passed-data-requires c κs = search needs
+passed-expression-requires : tie.Need-passed-expression-requires
+passed-expression-requires c κs = search needs
 
 returns : tie.Need-returns
-returns c = data-refused _ _ _ _ (c .before .before .before .before .before .before .head4 .given .1) (c .before .before .before .read-expression .ensures) _ (c .before .before .before .before .if1 .taken) _ (expression-passed-on (c .passed-data .ensures) (c .before .enum-told2 .given .1)) (c .before .enum-told2 .given .1)
+returns c = data-refused _ _ _ _ (c .before .before .before .before .before .before .head4 .given .1) (c .before .before .before .read-expression .ensures) _ (c .before .before .before .before .if1 .taken) _ (expression-passed-on (c .passed-expression .ensures) (c .before .enum-told2 .given .1)) (c .before .enum-told2 .given .1)
 
 located-requires : tie.Need-located-requires
 located-requires c κs = search needs
@@ -87,7 +87,7 @@ step-of-spec =
     read-expression-requires
     enum-known-r
     enum-told-2
-    passed-data-requires
+    passed-expression-requires
     returns
     located-requires
     add-t27

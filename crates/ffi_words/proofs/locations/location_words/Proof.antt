@@ -1,7 +1,7 @@
 use mathlib.Core.Path.{sym, ap, _∙_}
 use Rattle.ffi_words.specs.ListWords.{locationNext}
 use Rattle.lists.specs.Walk.{toldNextLocation}
-use Rattle.lists.specs.declared.loclists.LocAnswer.{LocAnswer}
+use Rattle.lists.specs.declared.loclists.LocationAnswer.{LocationAnswer}
 use borrow.Author.Needs.{needs}
 use Rattle.ffi_words.proofs.locations.location_words.Statement.{statement}
 use Rattle.ffi_words.proofs.locations.location_words.Tie as tie
@@ -22,13 +22,13 @@ refused-eight-requires : tie.Need-refused-eight-requires
 refused-eight-requires c κs = search needs
 
 returns : tie.Need-returns
-returns c = sym (ap (λ (x : LocAnswer). locationNext (toldNextLocation x)) (c .before .before .before .r .given .1))
+returns c = sym (ap (λ (x : LocationAnswer). locationNext (toldNextLocation x)) (c .before .before .before .r .given .1))
 
 returns-2 : tie.Need-returns-2
-returns-2 c = c .end-eight .ensures ∙ sym (ap (λ (x : LocAnswer). locationNext (toldNextLocation x)) (c .before .before .r2 .given .1))
+returns-2 c = c .end-eight .ensures ∙ sym (ap (λ (x : LocationAnswer). locationNext (toldNextLocation x)) (c .before .before .r2 .given .1))
 
 returns-3 : tie.Need-returns-3
-returns-3 c = c .refused-eight .ensures ∙ sym (ap (λ (x : LocAnswer). locationNext (toldNextLocation x)) (c .before .before .r3 .given .1))
+returns-3 c = c .refused-eight .ensures ∙ sym (ap (λ (x : LocationAnswer). locationNext (toldNextLocation x)) (c .before .before .r3 .given .1))
 
 pub location-words-spec : {M : Type 1} → statement M
 location-words-spec =

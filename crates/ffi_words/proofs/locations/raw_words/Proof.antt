@@ -1,7 +1,7 @@
 use mathlib.Core.Path.{sym, ap, _∙_}
 use Rattle.ffi_words.specs.ListWords.{rawLocationNext}
 use Rattle.lists.specs.Walk.{toldRawLocation}
-use Rattle.lists.specs.declared.loclists.RawLocAnswer.{RawLocAnswer}
+use Rattle.lists.specs.declared.loclists.RawLocationAnswer.{RawLocationAnswer}
 use borrow.Author.Needs.{needs}
 use Rattle.ffi_words.proofs.locations.raw_words.Statement.{statement}
 use Rattle.ffi_words.proofs.locations.raw_words.Tie as tie
@@ -25,13 +25,13 @@ refused-eight-requires : tie.Need-refused-eight-requires
 refused-eight-requires c κs = search needs
 
 returns : tie.Need-returns
-returns c = c .entry-words .ensures ∙ sym (ap (λ (x : RawLocAnswer). rawLocationNext (toldRawLocation x)) (c .before .before .r .given .1))
+returns c = c .entry-words .ensures ∙ sym (ap (λ (x : RawLocationAnswer). rawLocationNext (toldRawLocation x)) (c .before .before .r .given .1))
 
 returns-2 : tie.Need-returns-2
-returns-2 c = c .end-eight .ensures ∙ sym (ap (λ (x : RawLocAnswer). rawLocationNext (toldRawLocation x)) (c .before .before .r2 .given .1))
+returns-2 c = c .end-eight .ensures ∙ sym (ap (λ (x : RawLocationAnswer). rawLocationNext (toldRawLocation x)) (c .before .before .r2 .given .1))
 
 returns-3 : tie.Need-returns-3
-returns-3 c = c .refused-eight .ensures ∙ sym (ap (λ (x : RawLocAnswer). rawLocationNext (toldRawLocation x)) (c .before .before .r3 .given .1))
+returns-3 c = c .refused-eight .ensures ∙ sym (ap (λ (x : RawLocationAnswer). rawLocationNext (toldRawLocation x)) (c .before .before .r3 .given .1))
 
 pub raw-words-spec : {M : Type 1} → statement M
 raw-words-spec =

@@ -1,7 +1,7 @@
 use mathlib.Core.Path.{sym, ap, _∙_}
 use Rattle.ffi_words.specs.ListWords.{rangeOutcome}
 use Rattle.lists.specs.Walk.{toldConvertedRange}
-use Rattle.lists.specs.declared.rnglists.RngConverted.{RngConverted}
+use Rattle.lists.specs.declared.rnglists.RangeConverted.{RangeConverted}
 use borrow.Author.Needs.{needs}
 use Rattle.ffi_words.proofs.ranges.converted_words.Statement.{statement}
 use Rattle.ffi_words.proofs.ranges.converted_words.Tie as tie
@@ -22,13 +22,13 @@ refused-eight-requires : tie.Need-refused-eight-requires
 refused-eight-requires c κs = search needs
 
 returns : tie.Need-returns
-returns c = sym (ap (λ (x : RngConverted). rangeOutcome (toldConvertedRange x)) (c .before .r .given .1))
+returns c = sym (ap (λ (x : RangeConverted). rangeOutcome (toldConvertedRange x)) (c .before .r .given .1))
 
 returns-2 : tie.Need-returns-2
-returns-2 c = c .end-eight .ensures ∙ sym (ap (λ (x : RngConverted). rangeOutcome (toldConvertedRange x)) (c .before .before .r2 .given .1))
+returns-2 c = c .end-eight .ensures ∙ sym (ap (λ (x : RangeConverted). rangeOutcome (toldConvertedRange x)) (c .before .before .r2 .given .1))
 
 returns-3 : tie.Need-returns-3
-returns-3 c = c .refused-eight .ensures ∙ sym (ap (λ (x : RngConverted). rangeOutcome (toldConvertedRange x)) (c .before .before .r3 .given .1))
+returns-3 c = c .refused-eight .ensures ∙ sym (ap (λ (x : RangeConverted). rangeOutcome (toldConvertedRange x)) (c .before .before .r3 .given .1))
 
 pub converted-words-spec : {M : Type 1} → statement M
 converted-words-spec =

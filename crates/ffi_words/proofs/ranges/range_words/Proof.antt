@@ -1,7 +1,7 @@
 use mathlib.Core.Path.{sym, ap, _∙_}
 use Rattle.ffi_words.specs.ListWords.{rangeNext}
 use Rattle.lists.specs.Walk.{toldNextRange}
-use Rattle.lists.specs.declared.rnglists.RngAnswer.{RngAnswer}
+use Rattle.lists.specs.declared.rnglists.RangeAnswer.{RangeAnswer}
 use borrow.Author.Needs.{needs}
 use Rattle.ffi_words.proofs.ranges.range_words.Statement.{statement}
 use Rattle.ffi_words.proofs.ranges.range_words.Tie as tie
@@ -22,13 +22,13 @@ refused-four-requires : tie.Need-refused-four-requires
 refused-four-requires c κs = search needs
 
 returns : tie.Need-returns
-returns c = sym (ap (λ (x : RngAnswer). rangeNext (toldNextRange x)) (c .before .r .given .1))
+returns c = sym (ap (λ (x : RangeAnswer). rangeNext (toldNextRange x)) (c .before .r .given .1))
 
 returns-2 : tie.Need-returns-2
-returns-2 c = c .end-four .ensures ∙ sym (ap (λ (x : RngAnswer). rangeNext (toldNextRange x)) (c .before .before .r2 .given .1))
+returns-2 c = c .end-four .ensures ∙ sym (ap (λ (x : RangeAnswer). rangeNext (toldNextRange x)) (c .before .before .r2 .given .1))
 
 returns-3 : tie.Need-returns-3
-returns-3 c = c .refused-four .ensures ∙ sym (ap (λ (x : RngAnswer). rangeNext (toldNextRange x)) (c .before .before .r3 .given .1))
+returns-3 c = c .refused-four .ensures ∙ sym (ap (λ (x : RangeAnswer). rangeNext (toldNextRange x)) (c .before .before .r3 .given .1))
 
 pub range-words-spec : {M : Type 1} → statement M
 range-words-spec =
