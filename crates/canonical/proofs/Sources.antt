@@ -93,7 +93,7 @@ module _ (c : Coverage) where
 
   pub kept-ranges : {bs : List ℕ} → canonicalKept c ≡ gives bs → (lawfulSheet c ≡ true) × (canonicalBytes (rangesOf c) ≡ bs)
   unfolding canonicalKept
-  kept-ranges {bs} e = chosen (lawfulSheet c) (canonicalBytes (rangesOf c)) 12 [] e
+  kept-ranges {bs} e = chosen (lawfulSheet c) (canonicalBytes (rangesOf c)) _ _ e
     where
       chosen : (t : Bool) (l : List ℕ) (n : ℕ) (vs : List ℕ) → pick t (gives l) (refuses n vs) ≡ gives bs → (t ≡ true) × (l ≡ bs)
       chosen true l n vs e = (refl, cc)

@@ -11,6 +11,8 @@ use lib.Seq.{length-take-le, take-at, drop-at, drop-drop, take-add, take-all, ge
 use borrow.Author.Tests.{le-leb, eq-eqb, leb-true, eqb-true}
 use Rattle.bytes.specs.Read.{gives, refuses, pick}
 use Rattle.bytes.specs.Endianity.{little}
+use Rattle.bytes.specs.Error.{refusing}
+use Rattle.bytes.specs.declared.error.Error.the-variants.{BadSheet}
 use Rattle.coverage.specs.Ranges.{Range, limit}
 use Rattle.coverage.specs.Kept.{paired, begins, ends, rangesOf, lawfulFrom, lawfulSheet}
 use Rattle.bytes.specs.Written.{littleBytes}
@@ -97,7 +99,7 @@ module _ (rs : List Range) (l : Lawful rs) where
   pub sheet-back : sheetRanges (sheetBytes rs) ≡ gives rs
   unfolding sheetRanges
   sheet-back =
-      ap (λ (n : ℕ). pick (isSheet n (sheetBytes rs)) (gives (rangesIn n (sheetBytes rs))) (refuses 12 [])) count-back
+      ap (λ (n : ℕ). pick (isSheet n (sheetBytes rs)) (gives (rangesIn n (sheetBytes rs))) (refusing BadSheet)) count-back
       ∙ rw (is-sheet, ranges-back)
 
 -- no two lists of lawful ranges have one sheet
@@ -124,7 +126,7 @@ module _ (c : Coverage) where
   unfolding sheetKept
   sheet-kept h = simp h
 
-  pub no-sheet-kept : lawfulSheet c ≡ false → sheetKept c ≡ refuses 12 []
+  pub no-sheet-kept : lawfulSheet c ≡ false → sheetKept c ≡ refusing BadSheet
   unfolding sheetKept
   no-sheet-kept h = simp h
 
@@ -212,7 +214,7 @@ sheet-is n bs e =
 
 sheet-given : (bs : List ℕ) {rs : List Range} → sheetRanges bs ≡ gives rs → (isSheet (countIn bs) bs ≡ true) × (rangesIn (countIn bs) bs ≡ rs)
 unfolding sheetRanges
-sheet-given bs {rs} e = chosen (isSheet (countIn bs) bs) (rangesIn (countIn bs) bs) 12 [] e
+sheet-given bs {rs} e = chosen (isSheet (countIn bs) bs) (rangesIn (countIn bs) bs) _ _ e
   where
     chosen : (t : Bool) (l : List Range) (n : ℕ) (vs : List ℕ) → pick t (gives l) (refuses n vs) ≡ gives rs → (t ≡ true) × (l ≡ rs)
     chosen true l n vs e = (refl, cc)
