@@ -30,10 +30,10 @@ use Rattle.lists.specs.Walks.{InBounds}
 use Rattle.lists.proofs.Local.{past}
 use Rattle.lists.proofs.WalkLaws.{Moved, met-entry, met-end}
 use Rattle.coverage.specs.Ranges.{Range, limit}
-use Rattle.coverage.specs.Covered.{mapped, yieldedIn, traceOf, yieldedOf}
+use Rattle.coverage.specs.Covered.{mapped, yieldedIn, traceOf, yieldedOf, canonicalEncoding, readBack}
 use Rattle.coverage.proofs.Small.{Small}
 use Rattle.bytes.specs.Written.{littleBytes, unsignedBytes}
-use Rattle.canonical.specs.Canonical.{entryBytes, canonicalBytes, canonicalEncoding, readBack}
+use Rattle.canonical.specs.Canonical.{entryBytes, canonicalBytes}
 use Rattle.bytes.proofs.WrittenLaws.{length-little, little-back, unsigned-back, append-bytes, little-bytes, unsigned-bytes}
 
 -- an entry's bytes with what follows them

@@ -12,9 +12,9 @@ use Rattle.bytes.specs.declared.common.DebugAddrBase.{DebugAddrBase}
 use Rattle.bytes.specs.declared.common.Format.{Format}
 use Rattle.bytes.specs.declared.common.Format.the-variants.{Dwarf32}
 use Rattle.coverage.specs.Ranges.{Range, Covers, limit, runs}
-use Rattle.coverage.specs.Covered.{mapped, Source, yieldedOf, coverageOf, CoveredBy, Bytes}
+use Rattle.coverage.specs.Covered.{mapped, Source, yieldedOf, coverageOf, CoveredBy, Bytes, readBack}
 use Rattle.coverage.specs.Kept.{rangesOf, keptAs, lawfulSheet}
-use Rattle.canonical.specs.Canonical.{canonicalBytes, canonicalOf, canonicalKept, readBack}
+use Rattle.canonical.specs.Canonical.{canonicalBytes, canonicalOf, canonicalKept}
 use Rattle.coverage.specs.declared.Coverage.{Coverage}
 use Rattle.coverage.proofs.Small.{Small}
 use Rattle.canonical.proofs.CanonicalLaws.{canonical-bytes, canonical-yields}

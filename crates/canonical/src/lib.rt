@@ -1,5 +1,4 @@
 // The canonical list of a coverage, written into lent bytes.
-pub mod back;
 pub mod of_list;
 
 use bytes::error::Error;

@@ -7,7 +7,9 @@ use Rattle.bytes.specs.Read.{Result, gives, refuses}
 use Rattle.bytes.specs.Error.{refusing}
 use Rattle.bytes.specs.declared.common.DebugAddrBase.{DebugAddrBase}
 use Rattle.bytes.specs.declared.common.Encoding.{Encoding}
+use Rattle.bytes.specs.declared.common.Format.{Format}
 use Rattle.bytes.specs.declared.endianity.RunTimeEndian.{RunTimeEndian}
+use Rattle.bytes.specs.declared.endianity.RunTimeEndian.the-variants.{Little}
 use Rattle.bytes.specs.declared.error.Error.the-variants.{TooManyRanges}
 use Rattle.lists.specs.Open.{opened}
 use Rattle.lists.specs.Convert.{tableAt}
@@ -101,3 +103,12 @@ CoveredBy x a = CoversGiven (yieldedOf x) a
 pub record Bytes (x : Source) : Type 0 where
   pub section : (i : ℕ) → getD (x .section) i 0 < 256
   pub table : (i : ℕ) → getD (x .table) i 0 < 256
+
+-- how a canonical list is written: DWARF 5, address size 8; the format does not matter
+abbrev pub canonicalEncoding : Format → Encoding
+canonicalEncoding format = record { «address_size» = 8; format = format; version = 5 }
+
+-- bytes as a section of their own, read from offset 0 as a little-endian range list of that encoding: so a canonical list is
+-- walked in its turn (document 01, "Demand 3")
+abbrev pub readBack : Format → List ℕ → ℕ → List ℕ → DebugAddrBase → Source
+readBack format s base table tableBase = source rangeList (canonicalEncoding format) Little s 0 base table tableBase

@@ -5,6 +5,7 @@ use super::Made;
 use super::Verdict;
 use bytes::common::DebugAddrBase;
 use bytes::common::Encoding;
+use bytes::common::Format;
 use bytes::common::LocationListsOffset;
 use bytes::common::RangeListsOffset;
 use bytes::endianity::RunTimeEndian;
@@ -19,11 +20,12 @@ ghost use Prim.Native.Nat.{_≤_};
 ghost use lib.ListN.{length, take};
 ghost use mathlib.Core.List.{[]};
 ghost use Rattle.bytes.specs.Error.{refusing};
+ghost use Rattle.bytes.specs.declared.common.Format.the-variants.{Dwarf32};
 ghost use Rattle.bytes.specs.Reader.{isSize};
 ghost use Rattle.lists.specs.Convert.{tableAt};
 ghost use Rattle.lists.specs.Walk.{trace, listed};
 ghost use Rattle.coverage.specs.Ranges.{limit, runs};
-ghost use Rattle.coverage.specs.Covered.{mapped, yieldedIn, rangeList, locationList, holding, source, coverageOf};
+ghost use Rattle.coverage.specs.Covered.{mapped, yieldedIn, rangeList, locationList, holding, source, coverageOf, readBack};
 ghost use Rattle.coverage.specs.Kept.{padded};
 ghost use Rattle.coverage.specs.Told.{made, toldMade};
 ghost use Rattle.coverage.specs.Sorted.{Sized};
@@ -277,4 +279,40 @@ pub fn location_coverage(
         true,
         split,
     )
+}
+
+// The coverage that a canonical list tells, walked as a section of its own; of any other little-endian DWARF 5 range list with
+// addresses of 8 bytes, its coverage or its refusals. It has arrays of its own: a body that it shared with the coverage of range
+// lists would be a call that copies them.
+pub fn from_canonical(bytes: &[u8]) -> Made
+    ensures { λ r. ⌜ toldMade r ≡ made (coverageOf (readBack Dwarf32 (now (bytes .entry)) 0 [] (record { 0 = 0 }))) ⌝ }
+{
+    let mut begins = [0u64; LIMIT];
+    let mut ends = [0u64; LIMIT];
+    let outcome = cover(
+        bytes,
+        &bytes[..0],
+        DebugAddrBase(0),
+        0,
+        0,
+        Encoding {
+            address_size: 8,
+            format: Format::Dwarf32,
+            version: 5,
+        },
+        RunTimeEndian::Little,
+        false,
+        false,
+        &mut begins,
+        &mut ends,
+    );
+    let verdict = outcome.verdict;
+    Made {
+        verdict,
+        coverage: Coverage {
+            n: outcome.n,
+            begins,
+            ends,
+        },
+    }
 }

@@ -3,10 +3,8 @@ use coverage::Coverage;
 use ffi_words::coverages::Places;
 use ffi_words::words::Words4;
 ghost use mathlib.Core.Path.{_≡_};
-ghost use mathlib.Core.List.{[], _∷_};
-ghost use Rattle.bytes.specs.declared.common.Format.the-variants.{Dwarf32};
-ghost use Rattle.canonical.specs.Canonical.{readBack, canonicalKept};
-ghost use Rattle.coverage.specs.Covered.{coverageOf};
+ghost use mathlib.Core.List.{_∷_};
+ghost use Rattle.canonical.specs.Canonical.{canonicalKept};
 ghost use Rattle.sheets.specs.Sheet.{sheetKept, sheetRanges};
 ghost use Rattle.coverage.specs.Output.{written};
 ghost use Rattle.coverage.specs.Told.{made};
@@ -66,20 +64,5 @@ pub extern "C" fn yz_canonical(
     };
     let r = canonical::canonical(coverage, output);
     let w = ffi_words::coverages::wrote_words(r);
-    ffi_words::words::write_four(out, w)
-}
-
-// The bytes are read from their begin as a range list of DWARF 5, little-endian, with addresses of 8 bytes.
-#[no_mangle]
-pub extern "C" fn yz_coverage_from_canonical(
-    bytes: &[u8],
-    begins: &mut Places,
-    ends: &mut Places,
-    out: &mut Words4,
-) -> u64
-    ensures { λ r. ⌜ handed (r ∷ now (out .exit)) (now (begins .exit)) (now (ends .exit)) ≡ handsOut (made (coverageOf (readBack Dwarf32 (now (bytes .entry)) 0 [] (record { 0 = 0 })))) (now (begins .entry)) (now (ends .entry)) ⌝ }
-{
-    let made = canonical::back::from_canonical(bytes);
-    let w = ffi_words::coverages::hand_out(made, begins, ends);
     ffi_words::words::write_four(out, w)
 }

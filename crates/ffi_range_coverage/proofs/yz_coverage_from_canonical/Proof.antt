@@ -1,7 +1,7 @@
 use Rattle.ffi_words.proofs.CoverageLaws.{handed-out}
 use borrow.Author.Needs.{needs}
-use Rattle.ffi.proofs.coverages.yz_coverage_from_canonical.Statement.{statement}
-use Rattle.ffi.proofs.coverages.yz_coverage_from_canonical.Tie as tie
+use Rattle.ffi_range_coverage.proofs.yz_coverage_from_canonical.Statement.{statement}
+use Rattle.ffi_range_coverage.proofs.yz_coverage_from_canonical.Tie as tie
 
 from-canonical-requires : tie.Need-from-canonical-requires
 from-canonical-requires c κs = search needs
