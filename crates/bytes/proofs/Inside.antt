@@ -9,7 +9,7 @@ use lib.Dec.{leb}
 use lib.ListN.{length, drop, length-drop, drop-of-length-le}
 use lib.Seq.{length-take-le}
 use borrow.Author.Tests.{leb-true, leb-false}
-use Rattle.bytes.specs.Read.{Read, got, refused, andThen}
+use Rattle.bytes.specs.Read.{Result, gives, refused, got, Read, readThen}
 use Rattle.bytes.specs.Leb128.{unsigned, unsignedFrom}
 use Rattle.bytes.specs.Reader.{skip, uint, split, truncate, partOf, isSize, addressSize}
 use Rattle.bytes.specs.declared.Span.{Span}
@@ -18,14 +18,14 @@ use Rattle.bytes.proofs.Took.{pick-ind}
 use Rattle.bytes.proofs.LebTook.{unsigned-took}
 
 -- what holds of a refusal, and of all that may follow a value that was read, holds of the whole
-pub then-ind : {A B : Type 0} (P : Read B → Type 0) (r : Read A) (f : A → ℕ → Read B) → ((n : ℕ) (vs : List ℕ) → P (refused n vs))
-    → ((v : A) (c : ℕ) → r ≡ got v c → P (f v c)) → P (andThen r f)
-then-ind P (got v c) f n g = g v c refl
+pub then-ind : {A B : Type 0} (P : Result B → Type 0) (r : Read A) (f : A → ℕ → Result B) → ((n : ℕ) (vs : List ℕ) → P (refused n vs))
+    → ((v : A) (c : ℕ) → r ≡ gives (got v c) → P (f v c)) → P (readThen r f)
+then-ind P (gives (got v c)) f n g = g v c refl
 then-ind P (refused k vs) f n g = n k vs
 
 -- of a value that was read and the place after it
 abbrev pub Given : {A : Type 0} → (A → ℕ → Type 0) → Read A → Type 0
-Given P (got v c) = P v c
+Given P (gives (got v c)) = P v c
 Given P (refused k vs) = Unit
 
 module _ (n : ℕ) (s : List ℕ) (at : ℕ) where
@@ -33,7 +33,7 @@ module _ (n : ℕ) (s : List ℕ) (at : ℕ) where
   unfolding skip
   skips = pick-ind (Given (λ _ c. (c ≡ at + n) × (c ≤ length s))) (leb (at + n) (length s)) (λ h. (refl, leb-true _ _ h)) (λ h. tt)
 
-  pub skip-inside : {v : Unit} {c : ℕ} → skip n s at ≡ got v c → (c ≡ at + n) × (c ≤ length s)
+  pub skip-inside : {v : Unit} {c : ℕ} → skip n s at ≡ gives (got v c) → (c ≡ at + n) × (c ≤ length s)
   skip-inside e = rw e at skips
 
   -- a part that was cut off: where it starts, its length, and that it lies in the section
@@ -43,7 +43,7 @@ module _ (n : ℕ) (s : List ℕ) (at : ℕ) where
       then-ind (Given (λ x c. (x .offset ≡ at) × (x .len ≡ n) × (c ≡ at + n) × (c ≤ length s))) (skip n s at) _ (λ k vs. tt)
       (λ v c e. (refl, refl, skip-inside e .0, skip-inside e .1))
 
-  pub split-inside : {x : Span} {c : ℕ} → split n s at ≡ got x c → (x .offset ≡ at) × (x .len ≡ n) × (c ≡ at + n) × (c ≤ length s)
+  pub split-inside : {x : Span} {c : ℕ} → split n s at ≡ gives (got x c) → (x .offset ≡ at) × (x .len ≡ n) × (c ≡ at + n) × (c ≤ length s)
   split-inside e = rw e at splits
 
   -- a section that was cut after n bytes
@@ -51,7 +51,7 @@ module _ (n : ℕ) (s : List ℕ) (at : ℕ) where
   unfolding truncate
   cuts = then-ind (Given (λ end c. (end ≡ at + n) × (end ≤ length s) × (c ≡ at))) (skip n s at) _ (λ k vs. tt) (λ v c e. (skip-inside e .0, skip-inside e .1, refl))
 
-  pub truncate-inside : {end c : ℕ} → truncate n s at ≡ got end c → (end ≡ at + n) × (end ≤ length s) × (c ≡ at)
+  pub truncate-inside : {end c : ℕ} → truncate n s at ≡ gives (got end c) → (end ≡ at + n) × (end ≤ length s) × (c ≡ at)
   truncate-inside e = rw e at cuts
 
 -- an address size that was read is one that is read
@@ -61,11 +61,11 @@ module _ (s : List ℕ) (at : ℕ) where
   sizes =
       then-ind (Given (λ n c. isSize n ≡ true)) (uint Little 1 s at) _ (λ k vs. tt) (λ v c e. pick-ind (Given (λ n c. isSize n ≡ true)) (isSize v) (λ h. h) (λ h. tt))
 
-  pub address-size-is : {n c : ℕ} → addressSize s at ≡ got n c → isSize n ≡ true
+  pub address-size-is : {n c : ℕ} → addressSize s at ≡ gives (got n c) → isSize n ≡ true
   address-size-is e = rw e at sizes
 
 -- a number that was read ends in its section, wherever the reading began
-module _ (s : List ℕ) (at : ℕ) {v c : ℕ} (e : unsigned s at ≡ got v c) where
+module _ (s : List ℕ) (at : ℕ) {v c : ℕ} (e : unsigned s at ≡ gives (got v c)) where
   ended : (t : Bool) → leb at (length s) ≡ t → c ≤ length s
   unfolding unsigned unsignedFrom
   ended true h = let k = rw e at (unsigned-took s s at (leb-true at (length s) h)) in k .1

@@ -15,14 +15,14 @@ use lib.Arith.{digits-lt}
 use lib.Pow.{pow-add, shl-exact}
 use lib.Bits.{bitAnd, bitOr, and-mask, or-shifted-r}
 use borrow.Author.Tests.{lt-ltb, le-ltb, eq-eqb, ne-eqb, ltb-true}
-use Rattle.bytes.specs.Read.{Read, got, refused, pick}
+use Rattle.bytes.specs.Read.{gives, refused, got, Read, pick}
 use Rattle.bytes.specs.Error.{refusal}
 use Rattle.bytes.specs.Leb128.{below, unsignedFrom, unsigned, oneByte, noByte, single}
 use Rattle.bytes.specs.declared.error.Error.the-variants.{UnexpectedEof, BadUnsignedLeb128}
 
 -- an answer for the bytes that are left, joined with the low bits that were gathered
 pub onto : ℕ → ℕ → Read ℕ → Read ℕ
-onto acc sh (got v c) = got (v * 2 ^ sh + acc) c
+onto acc sh (gives (got v c)) = gives (got (v * 2 ^ sh + acc) c)
 onto acc sh (refused n vs) = refused n vs
 
 -- before a byte: `result` holds the low `shift` bits, and the definition's answer is that for the bytes left, with them
@@ -50,12 +50,12 @@ joined-lt acc b sh h = rw (pow-add 2 sh 7, mul-comm (2 ^ sh) 128) (digits-lt {q 
 -- one byte moves from what is left to what was gathered
 onto-more : (acc sh b : ℕ) (r : Read ℕ) → onto acc sh (below b r) ≡ onto ((b % 128) * 2 ^ sh + acc) (sh + 7) r
 unfolding onto
-onto-more acc sh b (got v c) = ap (λ (n : ℕ). got n c) (rw (pow-add 2 sh 7, add-mul, mul-assoc 128 v) (omega (arith, mul-assoc v (2 ^ sh) 128)))
+onto-more acc sh b (gives (got v c)) = ap (λ (n : ℕ). gives (got n c)) (rw (pow-add 2 sh 7, add-mul, mul-assoc 128 v) (omega (arith, mul-assoc v (2 ^ sh) 128)))
 onto-more acc sh b (refused n vs) = refl
 
 onto-none : (r : Read ℕ) → r ≡ onto 0 0 r
 unfolding onto
-onto-none (got v c) = ap (λ (n : ℕ). got n c) (omega arith)
+onto-none (gives (got v c)) = ap (λ (n : ℕ). gives (got n c)) (omega arith)
 onto-none (refused n vs) = refl
 
 gathered-none : (s : List ℕ) (at : ℕ) → Gathered s at 0 0 at
@@ -81,7 +81,7 @@ module _ (s : List ℕ) (i k : ℕ) where
   lawful-test : k ≤ 9 → Lawful (getD s i 0) (7 * k) → (eqb k 9 && ltb 1 (getD s i 0)) ≡ false
   lawful-test h l = ⊎-elim (λ q. rw (le-ltb 1 (getD s i 0) q) (and-false (eqb k 9))) (λ q. rw (ne-eqb k 9 (λ e. omega arith))) l
 
-  from-last : i < length s → k ≤ 9 → Lawful (getD s i 0) (7 * k) → getD s i 0 < 128 → unsignedFrom k (drop i s) i ≡ got (getD s i 0) (i + 1)
+  from-last : i < length s → k ≤ 9 → Lawful (getD s i 0) (7 * k) → getD s i 0 < 128 → unsignedFrom k (drop i s) i ≡ gives (got (getD s i 0) (i + 1))
   unfolding unsignedFrom
   from-last h hk l b = rw (drop-cons s i 0 h) (simp (lawful-test hk l, lt-ltb (getD s i 0) 128 b))
 
@@ -100,10 +100,10 @@ module _ {s : List ℕ} {at result shift i : ℕ} (g : Gathered s at result shif
   bad h e l = sym (g .says ∙ ap (onto result shift) (from-bad s i (i - at) h (omega arith) l))
 
   pub last : i < length s → Lawful (getD s i 0) shift → getD s i 0 < 128
-      → got (bitOr result ((bitAnd (getD s i 0) 127 * 2 ^ shift) % 2 ^ 64)) (i + 1) ≡ unsigned s at
+      → gives (got (bitOr result ((bitAnd (getD s i 0) 127 * 2 ^ shift) % 2 ^ 64)) (i + 1)) ≡ unsigned s at
   unfolding onto
   last h l b = sym (g .says ∙ ap (onto result shift) (from-last s i (i - at) h (omega arith) (rw (g .seven) at l) b)
-      ∙ ap (λ (n : ℕ). got n (i + 1)) (rw (joined result (getD s i 0) shift (g .low) (g .top) l, mod-eq-of-lt b)))
+      ∙ ap (λ (n : ℕ). gives (got n (i + 1))) (rw (joined result (getD s i 0) shift (g .low) (g .top) l, mod-eq-of-lt b)))
 
   pub next : i < length s → Lawful (getD s i 0) shift → 128 ≤ getD s i 0
       → Gathered s at (bitOr result ((bitAnd (getD s i 0) 127 * 2 ^ shift) % 2 ^ 64)) (shift + 7) (i + 1)
@@ -129,13 +129,13 @@ begun s at h b =
     rw j at (next (gathered-none s at) h l b)
 
 -- a number of one byte, and one of none
-pub one : (s : List ℕ) (at : ℕ) → at < length s → getD s at 0 < 128 → got (getD s at 0) (at + 1) ≡ unsigned s at
+pub one : (s : List ℕ) (at : ℕ) → at < length s → getD s at 0 < 128 → gives (got (getD s at 0) (at + 1)) ≡ unsigned s at
 unfolding unsigned
 one s at h b = sym (from-last s at 0 h (omega arith) (inr (omega arith)) b)
 
 -- a number of two bytes
 pub two : (s : List ℕ) (at : ℕ) → at + 1 < length s → 128 ≤ getD s at 0 → getD s (at + 1) 0 < 128
-    → got (bitOr (bitAnd (getD s at 0) 127) ((bitAnd (getD s (at + 1) 0) 127 * 2 ^ 7) % 2 ^ 64)) (at + 1 + 1) ≡ unsigned s at
+    → gives (got (bitOr (bitAnd (getD s at 0) 127) ((bitAnd (getD s (at + 1) 0) 127 * 2 ^ 7) % 2 ^ 64)) (at + 1 + 1)) ≡ unsigned s at
 two s at h b l = last (begun s at (omega arith) b) h (inr (omega arith)) l
 
 pub none : (s : List ℕ) (at : ℕ) → length s ≤ at → refusal UnexpectedEof ≡ unsigned s at
@@ -146,12 +146,12 @@ single-picked : (t : Bool) (b at : ℕ) {v c : ℕ} → pick t (oneByte b (at + 
 single-picked true b at h = (refl, cc, cc)
 single-picked false b at h = let z : _≡_ {A = ℕ} 0 1 = cc in absurd (omega arith)
 
-pub single-is : (s : List ℕ) (at : ℕ) {v c : ℕ} → single s at ≡ oneByte v c → unsigned s at ≡ got v c
+pub single-is : (s : List ℕ) (at : ℕ) {v c : ℕ} → single s at ≡ oneByte v c → unsigned s at ≡ gives (got v c)
 unfolding single
 single-is s at h =
     let p = single-picked (ltb at (length s) && ltb (getD s at 0) 128) (getD s at 0) at h in
     let t = and-eq-true-iff (ltb at (length s)) (ltb (getD s at 0) 128) .0 (p .0) in
-    sym (one s at (ltb-true at (length s) (t .0)) (ltb-true (getD s at 0) 128 (t .1))) ∙ ap₂ got (p .1) (p .2)
+    sym (one s at (ltb-true at (length s) (t .0)) (ltb-true (getD s at 0) 128 (t .1))) ∙ ap₂ (λ x d. gives (got x d)) (p .1) (p .2)
 
 module _ (s : List ℕ) (at : ℕ) where
   pub single-got : at < length s → getD s at 0 < 128 → oneByte (getD s at 0) (at + 1) ≡ single s at

@@ -8,7 +8,7 @@ use native.Mathlib.Omega.{arith}
 use lib.ListN.{length, take, drop}
 use lib.Dec.{eqb}
 use borrow.Author.Tests.{le-leb, lt-leb, le-ltb, lt-ltb, eq-eqb, ne-eqb, eqb-true}
-use Rattle.bytes.specs.Read.{Read, got, andThen}
+use Rattle.bytes.specs.Read.{Result, gives, got, Read, readThen}
 use Rattle.bytes.specs.Error.{refusal, told, toldPlace}
 use Rattle.bytes.specs.Endianity.{value}
 use Rattle.bytes.specs.Reader.{skip, uint, split, truncate, partOf, isSize, address, addressSize, initialLength, lengthOf}
@@ -23,18 +23,18 @@ use Rattle.bytes.specs.declared.Place.{Place}
 use Rattle.bytes.specs.declared.Place.the-variants as place
 
 -- an answer that was taken apart: its value goes on, or its refusal is the answer
-module _ {B : Type 0} {r : Num} {d : Read ℕ} (f : ℕ → ℕ → Read B) (p : told r ≡ d) where
-  pub got-then : {v c : ℕ} → r ≡ num.Got v c → andThen d f ≡ f v c
+module _ {B : Type 0} {r : Num} {d : Read ℕ} (f : ℕ → ℕ → Result B) (p : told r ≡ d) where
+  pub got-then : {v c : ℕ} → r ≡ num.Got v c → readThen d f ≡ f v c
   got-then q = rw (← p, q)
 
-  pub refused-then : {e : Error} → r ≡ num.Refused e → andThen d f ≡ refusal e
+  pub refused-then : {e : Error} → r ≡ num.Refused e → readThen d f ≡ refusal e
   refused-then q = rw (← p, q)
 
-module _ {B : Type 0} {r : Place} {d : Read Unit} (f : Unit → ℕ → Read B) (p : toldPlace r ≡ d) where
-  pub at-then : {c : ℕ} → r ≡ place.At c → andThen d f ≡ f tt c
+module _ {B : Type 0} {r : Place} {d : Read Unit} (f : Unit → ℕ → Result B) (p : toldPlace r ≡ d) where
+  pub at-then : {c : ℕ} → r ≡ place.At c → readThen d f ≡ f tt c
   at-then q = rw (← p, q)
 
-  pub no-place-then : {e : Error} → r ≡ place.Refused e → andThen d f ≡ refusal e
+  pub no-place-then : {e : Error} → r ≡ place.Refused e → readThen d f ≡ refusal e
   no-place-then q = rw (← p, q)
 
 module _ (n : ℕ) (s : List ℕ) (at : ℕ) where
@@ -42,7 +42,7 @@ module _ (n : ℕ) (s : List ℕ) (at : ℕ) where
   unfolding skip
   skip-short h = simp (lt-leb _ _ h)
 
-  pub skip-got : at + n ≤ length s → skip n s at ≡ got tt (at + n)
+  pub skip-got : at + n ≤ length s → skip n s at ≡ gives (got tt (at + n))
   unfolding skip
   skip-got h = simp (le-leb _ _ h)
 
@@ -56,7 +56,7 @@ module _ (n : ℕ) (s : List ℕ) (at : ℕ) where
 
 -- what is cut off or cut to, by the place after it
 module _ (n : ℕ) (s : List ℕ) (at : ℕ) {r : Place} (p : toldPlace r ≡ skip n s at) where
-  pub split-got : {c : ℕ} → r ≡ place.At c → split n s at ≡ got (record { offset = at; len = n }) c
+  pub split-got : {c : ℕ} → r ≡ place.At c → split n s at ≡ gives (got (record { offset = at; len = n }) c)
   unfolding split
   split-got q = at-then _ p q
 
@@ -64,7 +64,7 @@ module _ (n : ℕ) (s : List ℕ) (at : ℕ) {r : Place} (p : toldPlace r ≡ sk
   unfolding split
   no-split q = no-place-then _ p q
 
-  pub truncate-got : {c : ℕ} → r ≡ place.At c → truncate n s at ≡ got c at
+  pub truncate-got : {c : ℕ} → r ≡ place.At c → truncate n s at ≡ gives (got c at)
   unfolding truncate
   truncate-got q = at-then _ p q
 
@@ -77,7 +77,7 @@ module _ (o : RunTimeEndian) (n : ℕ) (s : List ℕ) (at : ℕ) where
   unfolding uint
   uint-short h = rw (skip-short n s at h)
 
-  pub uint-got : at + n ≤ length s → uint o n s at ≡ got (value o (take n (drop at s))) (at + n)
+  pub uint-got : at + n ≤ length s → uint o n s at ≡ gives (got (value o (take n (drop at s))) (at + n))
   unfolding uint
   uint-got h = rw (skip-got n s at h)
 
@@ -131,7 +131,7 @@ module _ (s : List ℕ) (at : ℕ) {r : Num} (p : told r ≡ uint Little 1 s at)
   unfolding addressSize
   no-size q = refused-then _ p q
 
-  pub size-read : {n c : ℕ} → r ≡ num.Got n c → isSize n ≡ true → addressSize s at ≡ got n c
+  pub size-read : {n c : ℕ} → r ≡ num.Got n c → isSize n ≡ true → addressSize s at ≡ gives (got n c)
   unfolding addressSize
   size-read q h = got-then _ p q ∙ simp h
 
@@ -146,7 +146,7 @@ module _ (o : RunTimeEndian) (s : List ℕ) (at : ℕ) {r : Num} (p : told r ≡
   no-length q = refused-then _ p q
 
   module _ {n c : ℕ} (q : r ≡ num.Got n c) where
-    pub length-32 : n < 0xfffffff0 → initialLength o s at ≡ got (lengthOf n Dwarf32) c
+    pub length-32 : n < 0xfffffff0 → initialLength o s at ≡ gives (got (lengthOf n Dwarf32) c)
     unfolding initialLength
     length-32 h = got-then _ p q ∙ simp (lt-ltb n 0xfffffff0 h)
 
@@ -155,12 +155,12 @@ module _ (o : RunTimeEndian) (s : List ℕ) (at : ℕ) {r : Num} (p : told r ≡
       unfolding initialLength
       length-reserved z = got-then _ p q ∙ simp (le-ltb n 0xfffffff0 h, ne-eqb n 0xffffffff z)
 
-      escaped : n ≡ 0xffffffff → initialLength o s at ≡ andThen (uint o 8 s c) (λ m d. got (lengthOf m Dwarf64) d)
+      escaped : n ≡ 0xffffffff → initialLength o s at ≡ readThen (uint o 8 s c) (λ m d. gives (got (lengthOf m Dwarf64) d))
       unfolding initialLength
       escaped z = got-then _ p q ∙ simp (le-ltb n 0xfffffff0 h, eq-eqb n 0xffffffff z)
 
       module _ (z : n ≡ 0xffffffff) {t : Num} (u : told t ≡ uint o 8 s c) where
-        pub length-64 : {m d : ℕ} → t ≡ num.Got m d → initialLength o s at ≡ got (lengthOf m Dwarf64) d
+        pub length-64 : {m d : ℕ} → t ≡ num.Got m d → initialLength o s at ≡ gives (got (lengthOf m Dwarf64) d)
         length-64 w = escaped z ∙ got-then _ u w
 
         pub no-length-64 : {e : Error} → t ≡ num.Refused e → initialLength o s at ≡ refusal e

@@ -9,7 +9,7 @@ use native.Mathlib.Omega.{arith}
 use lib.Dec.{eqb, ltb}
 use lib.ListN.{length, getD, drop}
 use borrow.Author.Tests.{lt-ltb, le-ltb, ne-eqb, eq-eqb, ltb-true, ltb-false}
-use Rattle.bytes.specs.Read.{Read, got, refused}
+use Rattle.bytes.specs.Read.{gives, refused, got, Read}
 use Rattle.bytes.specs.Endianity.{little}
 use Rattle.bytes.specs.Leb128.{below, unsignedFrom, unsigned}
 use Rattle.bytes.proofs.Took.{pick-ind}
@@ -41,7 +41,7 @@ little-written (b ∷ bs) h =
 
 -- what was read as the k-th byte of a number and the bytes after it
 module _ (j at x : ℕ) (rest : List ℕ) where
-  last-byte : j ≤ 8 → x < 128 → unsignedFrom j (x ∷ rest) at ≡ got x (at + 1)
+  last-byte : j ≤ 8 → x < 128 → unsignedFrom j (x ∷ rest) at ≡ gives (got x (at + 1))
   unfolding unsignedFrom
   last-byte h l = simp (ne-eqb j 9 (λ e. omega arith), lt-ltb x 128 l)
 
@@ -49,7 +49,7 @@ module _ (j at x : ℕ) (rest : List ℕ) where
   unfolding unsignedFrom
   more-bytes h l = simp (ne-eqb j 9 (λ e. omega arith), le-ltb x 128 l)
 
-  tenth-byte : j ≡ 9 → x ≤ 1 → unsignedFrom j (x ∷ rest) at ≡ got x (at + 1)
+  tenth-byte : j ≡ 9 → x ≤ 1 → unsignedFrom j (x ∷ rest) at ≡ gives (got x (at + 1))
   unfolding unsignedFrom
   tenth-byte h l = let m : x < 128 = omega arith in simp (eq-eqb j 9 h, le-ltb 1 x l, lt-ltb x 128 m)
 
@@ -62,14 +62,14 @@ module _ (k x : ℕ) where
   unfolding unsignedIn
   unsigned-long h = rw (le-ltb x 128 h)
 
-below-back : (x at n : ℕ) → below (x % 128 + 128) (got (x / 128) (at + 1 + n)) ≡ got x (at + suc n)
+below-back : (x at n : ℕ) → below (x % 128 + 128) (gives (got (x / 128) (at + 1 + n))) ≡ gives (got x (at + suc n))
 below-back x at n =
     let v : (x % 128 + 128) % 128 + 128 * (x / 128) ≡ x = omega arith in
     let c : at + 1 + n ≡ at + suc n = omega arith in
-    ap₂ got v c
+    ap₂ (λ x d. gives (got x d)) v c
 
 -- a number from its k-th byte from the end on
-pub unsigned-back : (j k x at : ℕ) (rest : List ℕ) → j + k ≡ 9 → x < 2 * 128 ^ k → unsignedFrom j (unsignedIn k x ++ rest) at ≡ got x (at + length (unsignedIn k x))
+pub unsigned-back : (j k x at : ℕ) (rest : List ℕ) → j + k ≡ 9 → x < 2 * 128 ^ k → unsignedFrom j (unsignedIn k x ++ rest) at ≡ gives (got x (at + length (unsignedIn k x)))
 unfolding unsignedIn
 unsigned-back j zero x at rest e h = tenth-byte j at x rest (omega arith) (omega arith)
 unsigned-back j (suc k) x at rest e h =
@@ -90,7 +90,7 @@ little-lt (b ∷ bs) h = let l : b < 256 = h 0 in let k = little-lt bs (λ i. h 
 
 -- no form of a number is shorter: by induction on the bytes that are read
 abbrev Least : ℕ → ℕ → Read ℕ → Type 0
-Least k at (got v c) = at + length (unsignedIn k v) ≤ c
+Least k at (gives (got v c)) = at + length (unsignedIn k v) ≤ c
 Least k at (refused n vs) = Unit
 
 one-byte : (k x : ℕ) → x < 128 → length (unsignedIn k x) ≡ 1
@@ -102,7 +102,7 @@ divided : (b v : ℕ) → (b % 128 + 128 * v) / 128 ≡ v
 divided b v = omega arith
 
 below-least : (k at b : ℕ) (r : Read ℕ) → Least k (at + 1) r → Least (suc k) at (below b r)
-below-least k at b (got v c) h =
+below-least k at b (gives (got v c)) h =
     ⊎-elim (λ l. omega (arith, one-byte (suc k) (b % 128 + 128 * v) l))
     (λ l. omega (arith, ap length (unsigned-long k (b % 128 + 128 * v) l), ap (λ (x : ℕ). length (unsignedIn k x)) (divided b v)))
     (lt-or-le (b % 128 + 128 * v) 128)
@@ -121,7 +121,7 @@ from-least (b ∷ bs) j (suc k) at e =
     (λ x. pick-ind (Least (suc k) at) (ltb b 128) (λ y. omega (arith, one-byte (suc k) b (ltb-true b 128 y)))
     (λ y. below-least k at b (unsignedFrom (j + 1) bs (at + 1)) (from-least bs (j + 1) k (at + 1) (omega arith))))
 
-pub shortest : (s : List ℕ) (at : ℕ) {v c : ℕ} → unsigned s at ≡ got v c → at + length (unsignedBytes v) ≤ c
+pub shortest : (s : List ℕ) (at : ℕ) {v c : ℕ} → unsigned s at ≡ gives (got v c) → at + length (unsignedBytes v) ≤ c
 unfolding unsigned
 shortest s at e = subst (Least 9 at) e (from-least (drop at s) 0 9 at refl)
 

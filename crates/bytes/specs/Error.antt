@@ -1,7 +1,7 @@
 -- Document 01's table of refusals: the number and the values of each. Nothing else knows a number.
 use Prim.Native.Nat.{ℕ}
 use mathlib.Core.List.{List, [], _∷_}
-use Rattle.bytes.specs.Read.{Read, got, refused, Result, gives, refuses}
+use Rattle.bytes.specs.Read.{Result, gives, refused, got, Read}
 use Rattle.bytes.specs.declared.error.Error.{Error}
 use Rattle.bytes.specs.declared.error.Error.the-variants.{
   UnexpectedEof,
@@ -56,25 +56,22 @@ values TooManyRanges = []
 values NoSpace = []
 values BadSheet = []
 
-abbrev pub refusal : {A : Type 0} → Error → Read A
+abbrev pub refusal : {A : Type 0} → Error → Result A
 refusal e = refused (number e) (values e)
-
-abbrev pub refusing : {A : Type 0} → Error → Result A
-refusing e = refuses (number e) (values e)
 
 -- the answers of this crate, told so
 abbrev pub told : Num → Read ℕ
-told (num.Got v c) = got v c
+told (num.Got v c) = gives (got v c)
 told (num.Refused e) = refusal e
 
 abbrev pub toldPlace : Place → Read Unit
-toldPlace (place.At c) = got tt c
+toldPlace (place.At c) = gives (got tt c)
 toldPlace (place.Refused e) = refusal e
 
 abbrev pub toldSplit : Split → Read Span
-toldSplit (split.Got x c) = got x c
+toldSplit (split.Got x c) = gives (got x c)
 toldSplit (split.Refused e) = refusal e
 
 abbrev pub toldLength : InitialLength → Read UnitLength
-toldLength (initial.Got u c) = got u c
+toldLength (initial.Got u c) = gives (got u c)
 toldLength (initial.Refused e) = refusal e

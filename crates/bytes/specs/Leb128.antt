@@ -4,7 +4,7 @@ use mathlib.Core.Bool.{_&&_}
 use mathlib.Core.List.{List, [], _∷_}
 use lib.Dec.{ltb, eqb}
 use lib.ListN.{length, getD, drop}
-use Rattle.bytes.specs.Read.{Read, got, andThen, pick}
+use Rattle.bytes.specs.Read.{gives, got, Read, readThen, pick}
 use Rattle.bytes.specs.Error.{refusal}
 use Rattle.bytes.specs.declared.error.Error.the-variants.{UnexpectedEof, BadUnsignedLeb128}
 use Rattle.bytes.specs.declared.leb128.OneByte.{OneByte as Code}
@@ -12,14 +12,14 @@ use Rattle.bytes.specs.declared.leb128.OneByte.the-variants as code
 
 -- the low seven bits of a byte, below a number that was read after it
 abbrev pub below : ℕ → Read ℕ → Read ℕ
-below b r = andThen r (λ v c. got (b % 128 + 128 * v) c)
+below b r = readThen r (λ v c. gives (got (b % 128 + 128 * v) c))
 
 -- the bytes from a place on, of which the first is the number's k-th, counted from 0
 unfoldable pub unsignedFrom : ℕ → List ℕ → ℕ → Read ℕ
 unsignedFrom k [] at = refusal UnexpectedEof
 unsignedFrom k (b ∷ bs) at =
     pick (eqb k 9 && ltb 1 b) (refusal BadUnsignedLeb128)
-    (pick (ltb b 128) (got b (at + 1)) (below b (unsignedFrom (k + 1) bs (at + 1))))
+    (pick (ltb b 128) (gives (got b (at + 1))) (below b (unsignedFrom (k + 1) bs (at + 1))))
 
 unfoldable pub unsigned : List ℕ → ℕ → Read ℕ
 unsigned s at = unsignedFrom 0 (drop at s) at

@@ -1,25 +1,28 @@
--- What a read answers: a value with the place after it, or a refusal by document 01's number and values.
+-- What is asked for, or a refusal by document 01's number and values: every answer has it, and every refusal is here.
 use Prim.Native.Nat.{ℕ}
 use mathlib.Core.Bool.{Bool, true, false}
 use mathlib.Core.List.{List}
 
-pub data Read (A : Type 0) : Type 0 where
-  got : A → ℕ → Read A
-  refused : ℕ → List ℕ → Read A
-
--- what follows a value that was read; a refusal is the answer
-abbrev pub andThen : {A B : Type 0} → Read A → (A → ℕ → Read B) → Read B
-andThen (got v c) f = f v c
-andThen (refused n vs) f = refused n vs
-
--- an answer that leaves no place behind
 pub data Result (A : Type 0) : Type 0 where
   gives : A → Result A
-  refuses : ℕ → List ℕ → Result A
+  refused : ℕ → List ℕ → Result A
 
-abbrev pub result : {A B : Type 0} → (A → Result B) → Read A → Result B
-result f (got v c) = f v
-result f (refused n vs) = refuses n vs
+-- what follows what is given; a refusal is the answer
+abbrev pub andThen : {A B : Type 0} → Result A → (A → Result B) → Result B
+andThen (gives a) f = f a
+andThen (refused n vs) f = refused n vs
+
+-- what a read gives: a value with the place after it
+pub data Got (A : Type 0) : Type 0 where
+  got : A → ℕ → Got A
+
+abbrev pub Read : Type 0 → Type 0
+Read A = Result (Got A)
+
+-- what follows a read, by the value and the place after it
+abbrev pub readThen : {A B : Type 0} → Read A → (A → ℕ → Result B) → Result B
+readThen (gives (got v c)) f = f v c
+readThen (refused n vs) f = refused n vs
 
 -- one of two, by a test
 abbrev pub pick : {A : Type 0} → Bool → A → A → A

@@ -4,7 +4,7 @@ use mathlib.Core.Bool.{Bool, _||_}
 use mathlib.Core.List.{List, []}
 use lib.Dec.{leb, ltb, eqb}
 use lib.ListN.{length, take, drop}
-use Rattle.bytes.specs.Read.{Read, got, andThen, pick}
+use Rattle.bytes.specs.Read.{gives, got, Read, readThen, pick}
 use Rattle.bytes.specs.Error.{refusal}
 use Rattle.bytes.specs.Common.{wordSize}
 use Rattle.bytes.specs.Endianity.{value}
@@ -18,19 +18,19 @@ use Rattle.bytes.specs.declared.UnitLength.{UnitLength}
 
 -- the place after n more bytes
 unfoldable pub skip : ℕ → List ℕ → ℕ → Read Unit
-skip n s at = pick (leb (at + n) (length s)) (got tt (at + n)) (refusal UnexpectedEof)
+skip n s at = pick (leb (at + n) (length s)) (gives (got tt (at + n))) (refusal UnexpectedEof)
 
 -- the number of `size` bytes
 unfoldable pub uint : RunTimeEndian → ℕ → List ℕ → ℕ → Read ℕ
-uint endian size s at = andThen (skip size s at) (λ _ c. got (value endian (take size (drop at s))) c)
+uint endian size s at = readThen (skip size s at) (λ _ c. gives (got (value endian (take size (drop at s))) c))
 
 -- the n bytes from a place on as a part of the section
 unfoldable pub split : ℕ → List ℕ → ℕ → Read Span
-split n s at = andThen (skip n s at) (λ _ c. got (record { offset = at; len = n }) c)
+split n s at = readThen (skip n s at) (λ _ c. gives (got (record { offset = at; len = n }) c))
 
 -- where a section ends that is cut n bytes after the place; the place stays
 unfoldable pub truncate : ℕ → List ℕ → ℕ → Read ℕ
-truncate n s at = andThen (skip n s at) (λ _ c. got c at)
+truncate n s at = readThen (skip n s at) (λ _ c. gives (got c at))
 
 -- the bytes of a part; none where it does not lie in the section
 unfoldable pub partOf : List ℕ → ℕ → ℕ → List ℕ
@@ -45,7 +45,7 @@ address endian size s at = pick (isSize size) (uint endian size s at) (refusal (
 
 -- an address size in a header: one byte
 unfoldable pub addressSize : List ℕ → ℕ → Read ℕ
-addressSize s at = andThen (uint Little 1 s at) (λ size c. pick (isSize size) (got size c) (refusal (UnsupportedAddressSize size)))
+addressSize s at = readThen (uint Little 1 s at) (λ size c. pick (isSize size) (gives (got size c)) (refusal (UnsupportedAddressSize size)))
 
 -- an offset or a length of a format
 abbrev pub word : RunTimeEndian → Format → List ℕ → ℕ → Read ℕ
@@ -57,7 +57,7 @@ lengthOf n format = record { length = n; format = format }
 
 unfoldable pub initialLength : RunTimeEndian → List ℕ → ℕ → Read UnitLength
 initialLength endian s at =
-    andThen (uint endian 4 s at) (λ n c.
-    pick (ltb n 0xfffffff0) (got (lengthOf n Dwarf32) c)
-    (pick (eqb n 0xffffffff) (andThen (uint endian 8 s c) (λ m d. got (lengthOf m Dwarf64) d))
+    readThen (uint endian 4 s at) (λ n c.
+    pick (ltb n 0xfffffff0) (gives (got (lengthOf n Dwarf32) c))
+    (pick (eqb n 0xffffffff) (readThen (uint endian 8 s c) (λ m d. gives (got (lengthOf m Dwarf64) d)))
     (refusal (UnknownReservedLength n))))

@@ -9,7 +9,7 @@ use lib.ListN.{length, getD, drop, length-drop}
 use lib.Seq.{getD-drop}
 use lib.Dec.{leb, eqb}
 use borrow.Author.Tests.{leb-false}
-use Rattle.bytes.specs.Read.{Read, got, refused, andThen}
+use Rattle.bytes.specs.Read.{gives, refused, got, Read, readThen}
 use Rattle.bytes.specs.Reader.{uint, split, address as addressAt}
 use Rattle.bytes.specs.Address.{ones}
 use Rattle.bytes.specs.Leb128.{unsigned}
@@ -31,16 +31,16 @@ use Rattle.entries.specs.Kinds.{Kind, endOfList, unknown, kind, Row, row
 
 -- of what is read, if anything is
 abbrev pub Gives : {A : Type 0} → (A → Type 0) → Read A → Type 0
-Gives P (got v c) = P v
+Gives P (gives (got v c)) = P v
 Gives P (refused n vs) = Unit
 
-gives-all : {A : Type 0} (P : A → Type 0) (r : Read A) → ((v : A) (c : ℕ) → r ≡ got v c → P v) → Gives P r
-gives-all P (got v c) h = h v c refl
+gives-all : {A : Type 0} (P : A → Type 0) (r : Read A) → ((v : A) (c : ℕ) → r ≡ gives (got v c) → P v) → Gives P r
+gives-all P (gives (got v c)) h = h v c refl
 gives-all P (refused n vs) h = tt
 
 then-gives : {A B : Type 0} (P : A → Type 0) (Q : B → Type 0) (r : Read A) (f : A → ℕ → Read B) → Gives P r → ((v : A) (c : ℕ) → P v → Gives Q (f v c))
-    → Gives Q (andThen r f)
-then-gives P Q (got v c) f h k = k v c h
+    → Gives Q (readThen r f)
+then-gives P Q (gives (got v c)) f h k = k v c h
 then-gives P Q (refused n vs) f h k = tt
 
 -- what holds of an operand by its form: the address size bounds addresses, the section's length an expression
@@ -130,14 +130,14 @@ rows-meet size len P (row n k ∷ rows) code h = pick-ind (MeetsKind size len P)
 -- what is read at a place of a section has what is read at the front of the part there
 module _ {E : Type 0} (P : E → Type 0) (read : List ℕ → Read (Raw E)) (s : List ℕ) (at : ℕ) where
   moved-gives : (r : Read (Raw E)) → Gives (OfEntry P) r → Gives (OfEntry P) (moved at r)
-  moved-gives (got v n) h = h
+  moved-gives (gives (got v n)) h = h
   moved-gives (refused n vs) h = tt
 
   raw-gives : (at < length s → Gives (OfEntry P) (read (drop at s))) → Gives (OfEntry P) (rawAt read s at)
   unfolding rawAt
   raw-gives h = pick-ind (Gives (OfEntry P)) (leb (length s) at) (λ _. tt) (λ q. moved-gives (read (drop at s)) (h (leb-false (length s) at q)))
 
-  raw-has : {e : E} {c : ℕ} → rawAt read s at ≡ got (entry e) c → Gives (OfEntry P) (rawAt read s at) → P e
+  raw-has : {e : E} {c : ℕ} → rawAt read s at ≡ gives (got (entry e) c) → Gives (OfEntry P) (rawAt read s at) → P e
   raw-has q h = rw q at h
 
 drop-bytes : (s : List ℕ) (at : ℕ) → ((i : ℕ) → getD s i 0 < 256) → (i : ℕ) → getD (drop at s) i 0 < 256
@@ -230,13 +230,13 @@ location-entry-lawful split p endian start s bytes =
 
 -- for the two lists
 pub range-sized : (p : Encoding) (endian : RunTimeEndian) (s : List ℕ) (at : ℕ) → ((i : ℕ) → getD s i 0 < 256) → {e : RawRngListEntry} {c : ℕ}
-    → rawRange p endian s at ≡ got (entry e) c → Sized (p .«address_size») e
+    → rawRange p endian s at ≡ gives (got (entry e) c) → Sized (p .«address_size») e
 range-sized p endian s at bytes q =
     raw-has (Sized (p .«address_size»)) (rangeEntry p endian) s at q
     (raw-gives (Sized (p .«address_size»)) (rangeEntry p endian) s at (λ _. range-entry-sized p endian (drop at s) (drop-bytes s at bytes)))
 
 location-lawful : (split : Bool) (p : Encoding) (endian : RunTimeEndian) (s : List ℕ) (at : ℕ) → ((i : ℕ) → getD s i 0 < 256) → {e : RawLocListEntry} {c : ℕ}
-    → rawLocation split p endian s at ≡ got (entry e) c → Lawful (p .«address_size») (length s) e
+    → rawLocation split p endian s at ≡ gives (got (entry e) c) → Lawful (p .«address_size») (length s) e
 location-lawful split p endian s at bytes q =
     raw-has (Lawful (p .«address_size») (length s)) (locationEntry split p endian at) s at q
     (raw-gives (Lawful (p .«address_size») (length s)) (locationEntry split p endian at) s at
@@ -244,9 +244,9 @@ location-lawful split p endian s at bytes q =
     rw n at (location-entry-lawful split p endian at (drop at s) (drop-bytes s at bytes))))
 
 pub location-sized : (split : Bool) (p : Encoding) (endian : RunTimeEndian) (s : List ℕ) (at : ℕ) → ((i : ℕ) → getD s i 0 < 256) → {e : RawLocListEntry} {c : ℕ}
-    → rawLocation split p endian s at ≡ got (entry e) c → SizedLocation (p .«address_size») e
+    → rawLocation split p endian s at ≡ gives (got (entry e) c) → SizedLocation (p .«address_size») e
 location-sized split p endian s at bytes q = location-lawful split p endian s at bytes q .0
 
 pub location-within : (split : Bool) (p : Encoding) (endian : RunTimeEndian) (s : List ℕ) (at : ℕ) → ((i : ℕ) → getD s i 0 < 256) → {e : RawLocListEntry} {c : ℕ}
-    → rawLocation split p endian s at ≡ got (entry e) c → Within (length s) e
+    → rawLocation split p endian s at ≡ gives (got (entry e) c) → Within (length s) e
 location-within split p endian s at bytes q = location-lawful split p endian s at bytes q .1

@@ -5,7 +5,7 @@ use mathlib.Core.List.{List}
 use Prim.Native.Nat.{ℕ, _+_, _-_, _≤_, _<_}
 use native.Mathlib.Omega.{arith}
 use lib.ListN.{length, take, drop}
-use Rattle.bytes.specs.Read.{Read, got, refused, andThen}
+use Rattle.bytes.specs.Read.{Result, gives, refused, got, Read, readThen}
 use Rattle.bytes.specs.Error.{told, refusal}
 use Rattle.bytes.specs.Reader.{uint, address as addressAt}
 use Rattle.bytes.specs.Leb128.{unsigned}
@@ -27,7 +27,7 @@ use Rattle.entries.specs.declared.raw.Head.{Head}
 use Rattle.entries.specs.declared.raw.Head.the-variants as head
 use Rattle.entries.specs.Forms.{expression, addrIndex, indexed, operand, operands, Raw, stop, entry}
 use Rattle.entries.specs.Kinds.{unknown, locationKinds, kindOf, ofKind, codedLocation, rangeEntry, locationEntry, moved}
-use Rattle.entries.specs.Told.{Step, found, ended, failed, stepOf, toldExpression}
+use Rattle.entries.specs.Told.{Step, found, ended, stepOf, toldExpression}
 use Rattle.entries.specs.Listed.{noExpression, entryIn, readIn, stepIn}
 use Rattle.entries.specs.Heads.{locatedAs, headedIn, headed, formsIn, pairIn, bareIn, Within, refusedHead, numberPair, startxLength}
 use Rattle.entries.proofs.KindLaws.{no-code, code-is, code-unknown, range-bare, raw-end}
@@ -45,21 +45,21 @@ pub head-passed : (p : Encoding) (endian : RunTimeEndian) (start : ℕ) (s : Lis
 head-passed p endian start s h e = head-passed-in true p endian start s h e
 
 -- an index is a number until the entry is built
-index-number : {B : Type 0} (r : Read ℕ) (f : DebugAddrIndex → ℕ → Read B) → andThen (indexed r) f ≡ andThen r (λ i c. f (addrIndex i) c)
-index-number (got v c) f = refl
+index-number : {B : Type 0} (r : Read ℕ) (f : DebugAddrIndex → ℕ → Read B) → readThen (indexed r) f ≡ readThen r (λ i c. f (addrIndex i) c)
+index-number (gives (got v c)) f = refl
 index-number (refused n vs) f = refl
 
 module _ (p : Encoding) (endian : RunTimeEndian) (start : ℕ) (s : List ℕ) where
   abbrev row : ℕ → ℕ → Read (Raw RawLocListEntry)
   row code at = ofKind p endian start s UnknownLocListsEntry code (kindOf locationKinds code) at
 
-  row-1 : (at : ℕ) → row 1 at ≡ andThen (unsigned s at) (λ a c. headed p endian start s (head.BaseAddressx a c))
+  row-1 : (at : ℕ) → row 1 at ≡ readThen (unsigned s at) (λ a c. headed p endian start s (head.BaseAddressx a c))
   unfolding kindOf locationKinds
   row-1 at = index-number (unsigned s at) _
 
   row-2 : (at : ℕ) → row 2 at ≡ numberPair p endian start s 2 at
   unfolding kindOf locationKinds locatedAs
-  row-2 at = index-number (unsigned s at) _ ∙ ap (andThen (unsigned s at)) (fun-ext (λ a. fun-ext (λ c. index-number (unsigned s c) _)))
+  row-2 at = index-number (unsigned s at) _ ∙ ap (readThen (unsigned s at)) (fun-ext (λ a. fun-ext (λ c. index-number (unsigned s c) _)))
 
   row-3 : (at : ℕ) → row 3 at ≡ startxLength p endian start s at
   unfolding kindOf locationKinds locatedAs
@@ -69,19 +69,19 @@ module _ (p : Encoding) (endian : RunTimeEndian) (start : ℕ) (s : List ℕ) wh
   unfolding kindOf locationKinds locatedAs
   row-4 at = refl
 
-  row-6 : (at : ℕ) → row 6 at ≡ andThen (addressAt endian (p .«address_size») s at) (λ a c. headed p endian start s (head.BaseAddress a c))
+  row-6 : (at : ℕ) → row 6 at ≡ readThen (addressAt endian (p .«address_size») s at) (λ a c. headed p endian start s (head.BaseAddress a c))
   unfolding kindOf locationKinds
   row-6 at = refl
 
   row-7 : (at : ℕ) → row 7 at
-      ≡ andThen (addressAt endian (p .«address_size») s at)
-      (λ a c. andThen (addressAt endian (p .«address_size») s c) (λ b d. headed p endian start s (head.Bounds 7 a b d)))
+      ≡ readThen (addressAt endian (p .«address_size») s at)
+      (λ a c. readThen (addressAt endian (p .«address_size») s c) (λ b d. headed p endian start s (head.Bounds 7 a b d)))
   unfolding kindOf locationKinds locatedAs
   row-7 at = refl
 
   row-8 : (at : ℕ) → row 8 at
-      ≡ andThen (addressAt endian (p .«address_size») s at)
-      (λ a c. andThen (unsigned s c) (λ b d. headed p endian start s (head.Bounds 8 a b d)))
+      ≡ readThen (addressAt endian (p .«address_size») s at)
+      (λ a c. readThen (unsigned s c) (λ b d. headed p endian start s (head.Bounds 8 a b d)))
   unfolding kindOf locationKinds locatedAs
   row-8 at = refl
 
@@ -91,7 +91,7 @@ module _ (p : Encoding) (endian : RunTimeEndian) (start : ℕ) (s : List ℕ) wh
     head-refused e q = head-passed p endian start s e q ∙ sym (no-code p endian start s _ _ h q)
 
     module _ {code c : ℕ} (q : r ≡ num.Got code c) where
-      pub head-end : code ≡ 0 → codedLocation p endian start s ≡ got stop c
+      pub head-end : code ≡ 0 → codedLocation p endian start s ≡ gives (got stop c)
       unfolding kindOf locationKinds
       head-end e = code-is p endian start s _ _ h 0 q e
 
@@ -102,7 +102,7 @@ module _ (p : Encoding) (endian : RunTimeEndian) (start : ℕ) (s : List ℕ) wh
       unfolding kindOf locationKinds locatedAs
       head-default e = code-is p endian start s _ _ h 5 q e
 
-      pub head-1 : code ≡ 1 → codedLocation p endian start s ≡ andThen (unsigned s c) (λ a d. headed p endian start s (head.BaseAddressx a d))
+      pub head-1 : code ≡ 1 → codedLocation p endian start s ≡ readThen (unsigned s c) (λ a d. headed p endian start s (head.BaseAddressx a d))
       head-1 e = code-is p endian start s _ _ h 1 q e ∙ row-1 c
 
       pub head-2 : code ≡ 2 → codedLocation p endian start s ≡ numberPair p endian start s 2 c
@@ -115,17 +115,17 @@ module _ (p : Encoding) (endian : RunTimeEndian) (start : ℕ) (s : List ℕ) wh
       head-4 e = code-is p endian start s _ _ h 4 q e ∙ row-4 c
 
       pub head-6 : code ≡ 6 → codedLocation p endian start s
-          ≡ andThen (addressAt endian (p .«address_size») s c) (λ a d. headed p endian start s (head.BaseAddress a d))
+          ≡ readThen (addressAt endian (p .«address_size») s c) (λ a d. headed p endian start s (head.BaseAddress a d))
       head-6 e = code-is p endian start s _ _ h 6 q e ∙ row-6 c
 
       pub head-7 : code ≡ 7 → codedLocation p endian start s
-          ≡ andThen (addressAt endian (p .«address_size») s c)
-          (λ a d. andThen (addressAt endian (p .«address_size») s d) (λ b f. headed p endian start s (head.Bounds 7 a b f)))
+          ≡ readThen (addressAt endian (p .«address_size») s c)
+          (λ a d. readThen (addressAt endian (p .«address_size») s d) (λ b f. headed p endian start s (head.Bounds 7 a b f)))
       head-7 e = code-is p endian start s _ _ h 7 q e ∙ row-7 c
 
       pub head-8 : code ≡ 8 → codedLocation p endian start s
-          ≡ andThen (addressAt endian (p .«address_size») s c)
-          (λ a d. andThen (unsigned s d) (λ b f. headed p endian start s (head.Bounds 8 a b f)))
+          ≡ readThen (addressAt endian (p .«address_size») s c)
+          (λ a d. readThen (unsigned s d) (λ b f. headed p endian start s (head.Bounds 8 a b f)))
       head-8 e = code-is p endian start s _ _ h 8 q e ∙ row-8 c
 
 -- a bare pair that is neither the end nor a base address
@@ -145,14 +145,14 @@ head-anywhere p endian start other s (head.Refused e) = refl
 
 -- what was read ends in the part
 within : {E : Type 0} (s : List ℕ) (r q : Read (Raw E)) → stepOf r ≡ stepOf q → Took 1 0 s s q q → Within (length s) r
-within s (got (entry x) n) q f k = let j = rw (step-found q f) at k in j .1
-within s (got stop n) q f k = tt
+within s (gives (got (entry x) n)) q f k = let j = rw (step-found q f) at k in j .1
+within s (gives (got stop n)) q f k = tt
 within s (refused n vs) q f k = tt
 
 -- the step of a head: the two numbers of a location are followed by an expression, those of a range are not
 module _ (p : Encoding) (endian : RunTimeEndian) (start : ℕ) (s : List ℕ) {h : Head} {code a b c : ℕ} (e : h ≡ head.Bounds code a b c) where
   module _ {r : ExpressionAnswer} (q : toldExpression r ≡ operand p endian start s expression c) where
-    pub data-refused : (l : Bool) → l ≡ true → (t : Step RawLocListEntry) {x : Error} → t ≡ stepOf (refusal x) → r ≡ parsed.Refused x
+    pub data-refused : (l : Bool) → l ≡ true → (t : Result (Step RawLocListEntry)) {x : Error} → t ≡ stepOf (refusal x) → r ≡ parsed.Refused x
         → stepIn l t ≡ stepOf (moved start (headedIn l p endian start s h))
     data-refused true k t f z = rw (f, e, ← q, z)
     data-refused false k t f z = let o : _≡_ {A = ℕ} 0 1 = cc in absurd (omega arith)
@@ -163,7 +163,7 @@ module _ (p : Encoding) (endian : RunTimeEndian) (start : ℕ) (s : List ℕ) {h
       data-within false k w = let o : _≡_ {A = ℕ} 0 1 = cc in absurd (omega arith)
 
       pub data-step : (l : Bool) → l ≡ true → {y : RawLocListEntry} → y ≡ locatedAs code a b x
-          → found (entryIn l y) (start + d) ≡ stepOf (moved start (headedIn l p endian start s h))
+          → gives (found (entryIn l y) (start + d)) ≡ stepOf (moved start (headedIn l p endian start s h))
       data-step true k f = rw (f, e, ← q, z)
       data-step false k f = let o : _≡_ {A = ℕ} 0 1 = cc in absurd (omega arith)
 
@@ -172,19 +172,19 @@ module _ (p : Encoding) (endian : RunTimeEndian) (start : ℕ) (s : List ℕ) {h
   pair-within true k w = let o : _≡_ {A = ℕ} 0 1 = cc in absurd (omega arith)
 
   pub pair-step : (l : Bool) → l ≡ false → {y : RawLocListEntry} → y ≡ locatedAs code a b noExpression
-      → found (entryIn l y) (start + c) ≡ stepOf (moved start (headedIn l p endian start s h))
+      → gives (found (entryIn l y) (start + c)) ≡ stepOf (moved start (headedIn l p endian start s h))
   pair-step false k f = rw (f, e)
   pair-step true k f = let o : _≡_ {A = ℕ} 0 1 = cc in absurd (omega arith)
 
 -- the entry that was built
-pub entry-built : {E : Type 0} {x y : E} {n : ℕ} {t : Step E} → x ≡ y → found y n ≡ t → found x n ≡ t
-entry-built {E} {x} {y} {n} e f = ap (λ (z : E). found z n) e ∙ f
+pub entry-built : {E : Type 0} {x y : E} {n : ℕ} {t : Result (Step E)} → x ≡ y → gives (found y n) ≡ t → gives (found x n) ≡ t
+entry-built {E} {x} {y} {n} e f = ap (λ (z : E). gives (found z n)) e ∙ f
 
 -- an answer for a location is the code's own
-pub step-same : (t : Step RawLocListEntry) → stepIn true t ≡ t
-step-same (found e c) = refl
-step-same ended = refl
-step-same (failed n vs) = refl
+pub step-same : (t : Result (Step RawLocListEntry)) → stepIn true t ≡ t
+step-same (gives (found e c)) = refl
+step-same (gives ended) = refl
+step-same (refused n vs) = refl
 
 -- the entry by the head that was read: it ends in the part, and its step is the entry's
 module _ (p : Encoding) (endian : RunTimeEndian) (start : ℕ) (s : List ℕ) (h : Head) where
@@ -192,7 +192,7 @@ module _ (p : Encoding) (endian : RunTimeEndian) (start : ℕ) (s : List ℕ) (h
     pub location-within : Within (length s) (headedIn true p endian start s h)
     location-within = within s (headedIn true p endian start s h) (locationEntry split p endian start s) (f start) (location-entry-took split p endian start s s)
 
-    pub location-step : (t : Step RawLocListEntry) → stepIn true t ≡ stepOf (moved start (headedIn true p endian start s h))
+    pub location-step : (t : Result (Step RawLocListEntry)) → stepIn true t ≡ stepOf (moved start (headedIn true p endian start s h))
         → t ≡ stepOf (moved start (locationEntry split p endian start s))
     location-step t g = sym (step-same t) ∙ g ∙ moved-alike start (headedIn true p endian start s h) (locationEntry split p endian start s) (f start)
 
@@ -203,17 +203,17 @@ module _ (p : Encoding) (endian : RunTimeEndian) (start : ℕ) (s : List ℕ) (h
     pub range-within : Within (length s) (headedIn false p endian start s h)
     range-within = within s (headedIn false p endian start s h) (rangeEntry p endian s) range-alike (range-entry-took p endian s s)
 
-    pub range-step : {t : Step RawRngListEntry} → t ≡ stepOf (moved start (headedIn false p endian start s h))
+    pub range-step : {t : Result (Step RawRngListEntry)} → t ≡ stepOf (moved start (headedIn false p endian start s h))
         → t ≡ stepOf (moved start (rangeEntry p endian s))
     range-step g = g ∙ moved-alike start (headedIn false p endian start s h) (rangeEntry p endian s) range-alike
 
 -- the list's answer at a place of the section
 module _ (split : Bool) (p : Encoding) (endian : RunTimeEndian) (s : List ℕ) (at : ℕ) where
-  pub in-end : (l : Bool) → length s ≤ at → ended ≡ stepOf (readIn l split p endian s at)
+  pub in-end : (l : Bool) → length s ≤ at → gives ended ≡ stepOf (readIn l split p endian s at)
   in-end true h = ap stepOf (sym (raw-end _ s at h))
   in-end false h = ap stepOf (sym (raw-end _ s at h))
 
-  module _ (h : at < length s) (t : Step RawLocListEntry) where
+  module _ (h : at < length s) (t : Result (Step RawLocListEntry)) where
     pub in-locations : (l : Bool) → l ≡ true → t ≡ stepOf (moved at (locationEntry split p endian at (take (length s - at) (drop at s))))
         → stepIn l t ≡ stepOf (readIn l split p endian s at)
     in-locations true k f = step-same t ∙ raw-from (locationEntry split p endian at) s at h f

@@ -7,7 +7,7 @@ use native.Mathlib.Omega.{arith}
 use lib.ListN.{length, take, drop, length-drop}
 use lib.Seq.{take-all}
 use borrow.Author.Tests.{le-leb, lt-leb, eq-eqb, ne-eqb}
-use Rattle.bytes.specs.Read.{Read, got}
+use Rattle.bytes.specs.Read.{gives, got, Read}
 use Rattle.bytes.specs.Error.{told, refusal}
 use Rattle.bytes.specs.Reader.{uint, address as addressAt}
 use Rattle.bytes.specs.Address.{ones}
@@ -63,12 +63,12 @@ module _ {E : Type 0} (p : Encoding) (endian : RunTimeEndian) (start : ℕ) (s :
       unfolding bare
       pair-is = rw (← h, q) (rw (← h2, q2))
 
-      pub pair-end : isEnd b e ≡ true → bare p endian start s base fs pair ≡ got stop d
+      pub pair-end : isEnd b e ≡ true → bare p endian start s base fs pair ≡ gives (got stop d)
       unfolding ofPair
       pair-end t = pair-is ∙ simp t
 
       module _ (t : isEnd b e ≡ false) {m : ℕ} (o : m ≡ ones (p .«address_size»)) where
-        pub pair-base : b ≡ m → bare p endian start s base fs pair ≡ got (entry (base e)) d
+        pub pair-base : b ≡ m → bare p endian start s base fs pair ≡ gives (got (entry (base e)) d)
         unfolding ofPair
         pair-base u = pair-is ∙ simp (t, eq-eqb b (ones (p .«address_size»)) (u ∙ o))
 
@@ -97,7 +97,7 @@ module _ (p : Encoding) (endian : RunTimeEndian) (s : List ℕ) where
 
 -- where a place lies in the section, and where it does not
 module _ {E : Type 0} (read : List ℕ → Read (Raw E)) (s : List ℕ) (at : ℕ) where
-  pub raw-end : length s ≤ at → rawAt read s at ≡ got stop at
+  pub raw-end : length s ≤ at → rawAt read s at ≡ gives (got stop at)
   unfolding rawAt
   raw-end h = simp (le-leb _ _ h)
 

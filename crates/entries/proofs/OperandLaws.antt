@@ -6,7 +6,7 @@ use Prim.Native.Nat.{ℕ, _≤_, _<_}
 use native.Mathlib.Omega.{arith}
 use lib.ListN.{length}
 use borrow.Author.Tests.{le-leb, lt-leb}
-use Rattle.bytes.specs.Read.{Read, got, andThen}
+use Rattle.bytes.specs.Read.{Result, gives, got, Read, readThen}
 use Rattle.bytes.specs.Error.{told, toldSplit, refusal}
 use Rattle.bytes.specs.Reader.{uint, split}
 use Rattle.bytes.specs.Leb128.{unsigned}
@@ -24,37 +24,37 @@ use Rattle.bytes.proofs.Inside.{split-inside}
 use Rattle.entries.specs.declared.Expression.{Expression}
 use Rattle.entries.specs.declared.operands.ExpressionAnswer.{ExpressionAnswer}
 use Rattle.entries.specs.declared.operands.ExpressionAnswer.the-variants as parsed
-use Rattle.entries.specs.Told.{Step, stepOf, toldExpression, handed}
+use Rattle.entries.specs.Told.{Step, stepOf, toldExpression, passedOn}
 use Rattle.entries.specs.Forms.{expression, addrIndex, indexed, versionedLength, placed, block, operand, stop}
 
 -- a refusal that the code hands on
-pub passed-on : {E : Type 0} {t : Step E} {r : Num} {x : Error} → t ≡ stepOf (handed (got stop 0) (told r)) → r ≡ num.Refused x → t ≡ stepOf (refusal x)
+pub passed-on : {E : Type 0} {t : Result (Step E)} {r : Num} {x : Error} → t ≡ stepOf (passedOn (gives (got stop 0)) (told r)) → r ≡ num.Refused x → t ≡ stepOf (refusal x)
 passed-on p h = rw h at p
 
-pub expression-passed-on : {E : Type 0} {t : Step E} {r : ExpressionAnswer} {x : Error} → t ≡ stepOf (handed (got stop 0) (toldExpression r)) → r ≡ parsed.Refused x
+pub expression-passed-on : {E : Type 0} {t : Result (Step E)} {r : ExpressionAnswer} {x : Error} → t ≡ stepOf (passedOn (gives (got stop 0)) (toldExpression r)) → r ≡ parsed.Refused x
     → t ≡ stepOf (refusal x)
 expression-passed-on p h = rw h at p
 
 module _ {t : Read Expression} {x : Error} where
-  pub length-passed-on : {r : Num} → t ≡ handed (refusal UnexpectedEof) (told r) → r ≡ num.Refused x → t ≡ refusal x
+  pub length-passed-on : {r : Num} → t ≡ passedOn (refusal UnexpectedEof) (told r) → r ≡ num.Refused x → t ≡ refusal x
   length-passed-on p h = rw h at p
 
-  pub split-passed-on : {r : Split} → t ≡ handed (refusal UnexpectedEof) (toldSplit r) → r ≡ cut.Refused x → t ≡ refusal x
+  pub split-passed-on : {r : Split} → t ≡ passedOn (refusal UnexpectedEof) (toldSplit r) → r ≡ cut.Refused x → t ≡ refusal x
   split-passed-on p h = rw h at p
 
 -- an operand that a call answered as r is there, and the others follow; or its refusal is the answer
 module _ {B : Type 0} {r : Num} {d : Read ℕ} (f : DebugAddrIndex → ℕ → Read B) (p : told r ≡ d) where
-  pub index-then : {v c : ℕ} → r ≡ num.Got v c → andThen (indexed d) f ≡ f (addrIndex v) c
+  pub index-then : {v c : ℕ} → r ≡ num.Got v c → readThen (indexed d) f ≡ f (addrIndex v) c
   index-then q = rw (← p, q)
 
-  pub no-index-then : {x : Error} → r ≡ num.Refused x → andThen (indexed d) f ≡ refusal x
+  pub no-index-then : {x : Error} → r ≡ num.Refused x → readThen (indexed d) f ≡ refusal x
   no-index-then q = rw (← p, q)
 
 module _ {B : Type 0} {r : ExpressionAnswer} {d : Read Expression} (f : Expression → ℕ → Read B) (p : toldExpression r ≡ d) where
-  pub expression-then : {v : Expression} {c : ℕ} → r ≡ parsed.Got v c → andThen d f ≡ f v c
+  pub expression-then : {v : Expression} {c : ℕ} → r ≡ parsed.Got v c → readThen d f ≡ f v c
   expression-then q = rw (← p, q)
 
-  pub no-expression-then : {x : Error} → r ≡ parsed.Refused x → andThen d f ≡ refusal x
+  pub no-expression-then : {x : Error} → r ≡ parsed.Refused x → readThen d f ≡ refusal x
   no-expression-then q = rw (← p, q)
 
 -- a length that depends on the version
@@ -68,7 +68,7 @@ module _ (k : ℕ) (p : Encoding) (endian : RunTimeEndian) (s : List ℕ) (at : 
   before-five h = simp (lt-leb _ _ h)
 
 -- an expression: its length is there, or not
-pub length-is : (p : Encoding) (endian : RunTimeEndian) (start : ℕ) (s : List ℕ) (at : ℕ) {n c : ℕ} → versionedLength 2 p endian s at ≡ got n c
+pub length-is : (p : Encoding) (endian : RunTimeEndian) (start : ℕ) (s : List ℕ) (at : ℕ) {n c : ℕ} → versionedLength 2 p endian s at ≡ gives (got n c)
     → operand p endian start s expression at ≡ block start s n c
 length-is p endian start s at h = rw h
 
@@ -85,7 +85,7 @@ module _ (start n : ℕ) (s : List ℕ) (c : ℕ) {r : Split} (h : toldSplit r �
   unfolding block
   block-short l = rw (← h, l)
 
-  pub block-there : {x : Span} {d : ℕ} → r ≡ cut.Got x d → block start s n c ≡ got (placed start x) d
+  pub block-there : {x : Span} {d : ℕ} → r ≡ cut.Got x d → block start s n c ≡ gives (got (placed start x) d)
   unfolding block
   block-there l = rw (← h, l)
 

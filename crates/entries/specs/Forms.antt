@@ -3,7 +3,7 @@
 use Prim.Native.Nat.{ℕ, _+_}
 use mathlib.Core.List.{List, [], _∷_}
 use lib.Dec.{leb}
-use Rattle.bytes.specs.Read.{Read, got, andThen, pick}
+use Rattle.bytes.specs.Read.{gives, got, Read, readThen, pick}
 use Rattle.bytes.specs.Reader.{uint, split, address as addressAt}
 use Rattle.bytes.specs.Leb128.{unsigned}
 use Rattle.bytes.specs.declared.common.Encoding.{Encoding}
@@ -29,7 +29,7 @@ abbrev pub addrIndex : ℕ → DebugAddrIndex
 addrIndex i = record { 0 = i }
 
 abbrev pub indexed : Read ℕ → Read DebugAddrIndex
-indexed r = andThen r (λ i c. got (addrIndex i) c)
+indexed r = readThen r (λ i c. gives (got (addrIndex i) c))
 
 -- a length: LEB128 from version 5 on; before, some number of bytes, as GNU split lists and bare pairs have it
 unfoldable pub versionedLength : ℕ → Encoding → RunTimeEndian → List ℕ → ℕ → Read ℕ
@@ -41,7 +41,7 @@ placed start x = record { offset = start + x .offset; len = x .len }
 
 -- as many bytes as the length says
 unfoldable pub block : ℕ → List ℕ → ℕ → ℕ → Read Expression
-block start s n c = andThen (split n s c) (λ x d. got (placed start x) d)
+block start s n c = readThen (split n s c) (λ x d. gives (got (placed start x) d))
 
 -- an operand of a form at a place; up to version 4 rangeLength is four bytes and an expression's length two
 abbrev pub operand : Encoding → RunTimeEndian → ℕ → List ℕ → (f : Form) → ℕ → Read (Value f)
@@ -49,7 +49,7 @@ operand encoding endian start s index at = indexed (unsigned s at)
 operand encoding endian start s number at = unsigned s at
 operand encoding endian start s rangeLength at = versionedLength 4 encoding endian s at
 operand encoding endian start s address at = addressAt endian (encoding .«address_size») s at
-operand encoding endian start s expression at = andThen (versionedLength 2 encoding endian s at) (block start s)
+operand encoding endian start s expression at = readThen (versionedLength 2 encoding endian s at) (block start s)
 
 -- a function of the operands' values
 abbrev pub Takes : List Form → Type 0 → Type 0
@@ -63,6 +63,6 @@ pub data Raw (E : Type 0) : Type 0 where
 
 -- the operands one after the other, handed to what they mean
 abbrev pub operands : {E : Type 0} → Encoding → RunTimeEndian → ℕ → List ℕ → (fs : List Form) → Takes fs E → ℕ → Read (Raw E)
-operands encoding endian start s [] e at = got (entry e) at
+operands encoding endian start s [] e at = gives (got (entry e) at)
 operands encoding endian start s (f ∷ fs) e at =
-    andThen (operand encoding endian start s f at) (λ v c. operands encoding endian start s fs (e v) c)
+    readThen (operand encoding endian start s f at) (λ v c. operands encoding endian start s fs (e v) c)

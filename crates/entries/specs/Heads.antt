@@ -4,7 +4,7 @@ use Prim.Native.Nat.{ℕ, _≤_}
 use mathlib.Core.Bool.{Bool, true, false}
 use mathlib.Core.List.{List, [], _∷_}
 use lib.Dec.{eqb}
-use Rattle.bytes.specs.Read.{Read, got, refused, andThen, pick}
+use Rattle.bytes.specs.Read.{gives, refused, got, Read, readThen, pick}
 use Rattle.bytes.specs.Error.{refusal}
 use Rattle.bytes.specs.Leb128.{unsigned}
 use Rattle.bytes.specs.declared.common.Encoding.{Encoding}
@@ -34,15 +34,15 @@ locatedAs code a b x =
 -- what two numbers after a code come to: in a location list an expression follows them
 abbrev pub followed : (l : Bool) → Encoding → RunTimeEndian → ℕ → List ℕ → ℕ → ℕ → ℕ → ℕ → Read (Raw (EntryIn l))
 followed true encoding endian start s code a b c =
-    andThen (operand encoding endian start s expression c) (λ x d. got (entry (locatedAs code a b x)) d)
-followed false encoding endian start s code a b c = got (entry (bounds (locatedAs code a b noExpression))) c
+    readThen (operand encoding endian start s expression c) (λ x d. gives (got (entry (locatedAs code a b x)) d))
+followed false encoding endian start s code a b c = gives (got (entry (bounds (locatedAs code a b noExpression))) c)
 
 -- what is read at the front of a part, by the head that was read there; where the end stands is not told
 abbrev pub headedIn : (l : Bool) → Encoding → RunTimeEndian → ℕ → List ℕ → Head → Read (Raw (EntryIn l))
 headedIn l encoding endian start s (head.Bounds code a b c) = followed l encoding endian start s code a b c
-headedIn l encoding endian start s (head.BaseAddress a c) = got (entry (entryIn l (loc.BaseAddress a))) c
-headedIn l encoding endian start s (head.BaseAddressx i c) = got (entry (entryIn l (loc.BaseAddressx (addrIndex i)))) c
-headedIn l encoding endian start s head.End = got stop 0
+headedIn l encoding endian start s (head.BaseAddress a c) = gives (got (entry (entryIn l (loc.BaseAddress a))) c)
+headedIn l encoding endian start s (head.BaseAddressx i c) = gives (got (entry (entryIn l (loc.BaseAddressx (addrIndex i)))) c)
+headedIn l encoding endian start s head.End = gives (got stop 0)
 headedIn l encoding endian start s (head.Refused e) = refusal e
 
 abbrev pub headed : Encoding → RunTimeEndian → ℕ → List ℕ → Head → Read (Raw RawLocListEntry)
@@ -62,19 +62,19 @@ bareIn l encoding endian start s = bare encoding endian start s (λ a. entryIn l
 
 -- an entry that was read ends in a part of some length
 abbrev pub Within : {E : Type 0} → ℕ → Read (Raw E) → Type 0
-Within len (got (entry e) c) = c ≤ len
-Within len (got stop c) = Unit
+Within len (gives (got (entry e) c)) = c ≤ len
+Within len (gives (got stop c)) = Unit
 Within len (refused n vs) = Unit
 
 -- two LEB128 numbers after a code
 abbrev pub numberPair : Encoding → RunTimeEndian → ℕ → List ℕ → ℕ → ℕ → Read (Raw RawLocListEntry)
 numberPair encoding endian start s code at =
-    andThen (unsigned s at) (λ a c. andThen (unsigned s c) (λ b d. headed encoding endian start s (head.Bounds code a b d)))
+    readThen (unsigned s at) (λ a c. readThen (unsigned s c) (λ b d. headed encoding endian start s (head.Bounds code a b d)))
 
 -- a LEB128 number and a length
 abbrev pub startxLength : Encoding → RunTimeEndian → ℕ → List ℕ → ℕ → Read (Raw RawLocListEntry)
 startxLength encoding endian start s at =
-    andThen (unsigned s at) (λ a c. andThen (versionedLength 4 encoding endian s c) (λ b d. headed encoding endian start s (head.Bounds 3 a b d)))
+    readThen (unsigned s at) (λ a c. readThen (versionedLength 4 encoding endian s c) (λ b d. headed encoding endian start s (head.Bounds 3 a b d)))
 
 -- a refusal handed on by the code; what is not refused is not handed on, and gets some other answer
 abbrev pub refusedHead : Num → Head

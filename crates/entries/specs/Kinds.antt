@@ -4,7 +4,7 @@ use mathlib.Core.List.{List, [], _∷_}
 use mathlib.Core.Bool.{Bool, _||_, _&&_}
 use lib.ListN.{length, drop}
 use lib.Dec.{leb, eqb}
-use Rattle.bytes.specs.Read.{Read, got, andThen, pick}
+use Rattle.bytes.specs.Read.{gives, got, Read, readThen, pick}
 use Rattle.bytes.specs.Error.{refusal}
 use Rattle.bytes.specs.Reader.{uint}
 use Rattle.bytes.specs.Address.{ones}
@@ -62,14 +62,14 @@ kindOf (row n k ∷ rows) code = pick (eqb code n) k (kindOf rows code)
 
 -- the entry of a kind whose operands start at a place; a code without a kind is refused, with the code
 abbrev pub ofKind : {E : Type 0} → Encoding → RunTimeEndian → ℕ → List ℕ → (ℕ → Error) → ℕ → Kind E → ℕ → Read (Raw E)
-ofKind encoding endian start s unknownEntry code endOfList at = got stop at
+ofKind encoding endian start s unknownEntry code endOfList at = gives (got stop at)
 ofKind encoding endian start s unknownEntry code unknown at = refusal (unknownEntry code)
 ofKind encoding endian start s unknownEntry code (kind fs e) at = operands encoding endian start s fs e at
 
 -- at the front of a part, a code of one byte and its operands, by any map from codes to kinds
 unfoldable pub coded : {E : Type 0} → Encoding → RunTimeEndian → ℕ → List ℕ → (ℕ → Error) → (ℕ → Kind E) → Read (Raw E)
 coded encoding endian start s unknownEntry kinds =
-    andThen (uint Little 1 s 0) (λ code c. ofKind encoding endian start s unknownEntry code (kinds code) c)
+    readThen (uint Little 1 s 0) (λ code c. ofKind encoding endian start s unknownEntry code (kinds code) c)
 
 -- whether a bare pair ends its list: both numbers zero, not merely equal (DWARF 4, 2.17.3 and 2.6.2)
 abbrev pub isEnd : ℕ → ℕ → Bool
@@ -79,14 +79,14 @@ isEnd b e = eqb b 0 && eqb e 0
 -- pair is an entry with what follows it
 unfoldable pub ofPair : {E : Type 0} → Encoding → RunTimeEndian → ℕ → List ℕ → (ℕ → E) → (fs : List Form) → (ℕ → ℕ → Takes fs E) → ℕ → ℕ → ℕ → Read (Raw E)
 ofPair encoding endian start s base fs pair b e c =
-    pick (isEnd b e) (got stop c)
-    (pick (eqb b (ones (encoding .«address_size»))) (got (entry (base e)) c) (operands encoding endian start s fs (pair b e) c))
+    pick (isEnd b e) (gives (got stop c))
+    (pick (eqb b (ones (encoding .«address_size»))) (gives (got (entry (base e)) c)) (operands encoding endian start s fs (pair b e) c))
 
 -- at the front of a part, a bare pair of addresses, with the forms of what follows it
 unfoldable pub bare : {E : Type 0} → Encoding → RunTimeEndian → ℕ → List ℕ → (ℕ → E) → (fs : List Form) → (ℕ → ℕ → Takes fs E) → Read (Raw E)
 bare encoding endian start s base fs pair =
-    andThen (operand encoding endian start s address 0) (λ b c.
-    andThen (operand encoding endian start s address c) (λ e d. ofPair encoding endian start s base fs pair b e d))
+    readThen (operand encoding endian start s address 0) (λ b c.
+    readThen (operand encoding endian start s address c) (λ e d. ofPair encoding endian start s base fs pair b e d))
 
 -- ranges have no operand that speaks of the section, so their part may start anywhere
 abbrev pub codedRange : Encoding → RunTimeEndian → List ℕ → Read (Raw RawRngListEntry)
@@ -115,11 +115,11 @@ locationEntry split encoding endian start s =
 
 -- places of a part counted in the section again
 abbrev pub moved : {A : Type 0} → ℕ → Read A → Read A
-moved at r = andThen r (λ x n. got x (at + n))
+moved at r = readThen r (λ x n. gives (got x (at + n)))
 
 -- what is read at a place of a section; at or past the section's end a list ends, which is gimli's rule
 unfoldable pub rawAt : {E : Type 0} → (List ℕ → Read (Raw E)) → List ℕ → ℕ → Read (Raw E)
-rawAt read s at = pick (leb (length s) at) (got stop at) (moved at (read (drop at s)))
+rawAt read s at = pick (leb (length s) at) (gives (got stop at)) (moved at (read (drop at s)))
 
 -- the raw entry at a place of a range list
 abbrev pub rawRange : Encoding → RunTimeEndian → List ℕ → ℕ → Read (Raw RawRngListEntry)

@@ -3,12 +3,12 @@
 use Prim.Native.Nat.{ℕ, _-_, _^_}
 use mathlib.Core.Bool.{Bool, true, false}
 use mathlib.Core.List.{List}
-use Rattle.bytes.specs.Read.{Read}
+use Rattle.bytes.specs.Read.{Result, gives, refused, Read}
 use Rattle.bytes.specs.declared.common.Encoding.{Encoding}
 use Rattle.bytes.specs.declared.endianity.RunTimeEndian.{RunTimeEndian}
 use Rattle.entries.specs.Forms.{Raw}
 use Rattle.entries.specs.Kinds.{rawRange, rawLocation}
-use Rattle.entries.specs.Told.{Step, found, ended, failed}
+use Rattle.entries.specs.Told.{Step, found, ended}
 use Rattle.entries.specs.declared.Expression.{Expression}
 use Rattle.entries.specs.declared.RawRngListEntry.{RawRngListEntry}
 use Rattle.entries.specs.declared.RawRngListEntry.the-variants.{
@@ -53,7 +53,7 @@ abbrev pub readIn : (l : Bool) → Bool → Encoding → RunTimeEndian → List 
 readIn true split encoding endian s at = rawLocation split encoding endian s at
 readIn false split encoding endian s at = rawRange encoding endian s at
 
-abbrev pub stepIn : (l : Bool) → Step RawLocListEntry → Step (EntryIn l)
-stepIn l (found e c) = found (entryIn l e) c
-stepIn l ended = ended
-stepIn l (failed n vs) = failed n vs
+abbrev pub stepIn : (l : Bool) → Result (Step RawLocListEntry) → Result (Step (EntryIn l))
+stepIn l (gives (found e c)) = gives (found (entryIn l e) c)
+stepIn l (gives ended) = gives ended
+stepIn l (refused n vs) = refused n vs

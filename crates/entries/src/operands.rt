@@ -11,7 +11,7 @@ ghost use Prim.Native.Nat.{_+_, _<_, _^_};
 ghost use lib.ListN.{length};
 ghost use Rattle.bytes.specs.Error.{told, toldSplit, refusal};
 ghost use Rattle.bytes.specs.declared.error.Error.the-variants.{UnexpectedEof};
-ghost use Rattle.entries.specs.Told.{toldExpression, handed};
+ghost use Rattle.entries.specs.Told.{toldExpression, passedOn};
 ghost use Rattle.entries.specs.Forms.{expression, versionedLength, block, operand};
 ghost use Rattle.entries.specs.Kinds.{isEnd};
 
@@ -33,7 +33,7 @@ pub(crate) fn read_length(part: &[u8], at: usize, encoding: Encoding, endian: Ru
 
 // A refusal of a length passed on.
 fn passed(r: Num) -> ExpressionAnswer
-    ensures { λ q. ⌜ toldExpression q ≡ handed (refusal UnexpectedEof) (told r) ⌝ }
+    ensures { λ q. ⌜ toldExpression q ≡ passedOn (refusal UnexpectedEof) (told r) ⌝ }
 {
     match r {
         Num::Got(_, _) => ExpressionAnswer::Refused(Error::UnexpectedEof),
@@ -42,7 +42,7 @@ fn passed(r: Num) -> ExpressionAnswer
 }
 
 fn passed_split(r: Split) -> ExpressionAnswer
-    ensures { λ q. ⌜ toldExpression q ≡ handed (refusal UnexpectedEof) (toldSplit r) ⌝ }
+    ensures { λ q. ⌜ toldExpression q ≡ passedOn (refusal UnexpectedEof) (toldSplit r) ⌝ }
 {
     match r {
         Split::Got(_, _) => ExpressionAnswer::Refused(Error::UnexpectedEof),

@@ -14,8 +14,8 @@ ghost use mathlib.Core.Bool.{Bool, false};
 ghost use mathlib.Core.Path.{_≡_};
 ghost use Prim.Native.Nat.{ℕ, _+_, _<_, _^_};
 ghost use lib.ListN.{length};
-ghost use Rattle.bytes.specs.Read.{got};
-ghost use Rattle.entries.specs.Told.{stepOf, toldLocation, toldExpression, handed};
+ghost use Rattle.bytes.specs.Read.{gives, got};
+ghost use Rattle.entries.specs.Told.{stepOf, toldLocation, toldExpression, passedOn};
 ghost use Rattle.entries.specs.Forms.{stop};
 ghost use Rattle.entries.specs.Kinds.{hasKinds, rangeEntry, locationEntry, moved};
 ghost use Rattle.entries.specs.Listed.{bounds, readIn, stepIn};
@@ -42,7 +42,7 @@ pub(crate) fn passed(r: Num) -> Head
 }
 
 fn passed_expression(r: ExpressionAnswer) -> LocationStep
-    ensures { λ q. ⌜ toldLocation q ≡ stepOf (handed (got stop 0) (toldExpression r)) ⌝ }
+    ensures { λ q. ⌜ toldLocation q ≡ stepOf (passedOn (gives (got stop 0)) (toldExpression r)) ⌝ }
 {
     match r {
         ExpressionAnswer::Got(_, _) => LocationStep::End,

@@ -12,16 +12,16 @@ ghost use mathlib.Core.Bool.{false};
 ghost use mathlib.Core.Path.{_≡_};
 ghost use Prim.Native.Nat.{_+_, _<_, _^_};
 ghost use lib.ListN.{length};
-ghost use Rattle.bytes.specs.Read.{got};
+ghost use Rattle.bytes.specs.Read.{gives, got};
 ghost use Rattle.bytes.specs.Error.{told};
-ghost use Rattle.entries.specs.Told.{stepOf, toldRange, toldLocation, handed};
+ghost use Rattle.entries.specs.Told.{stepOf, toldRange, toldLocation, passedOn};
 ghost use Rattle.entries.specs.Listed.{stepIn};
 ghost use Rattle.entries.specs.Forms.{stop};
 ghost use Rattle.entries.specs.Kinds.{codedRange, moved, rawRange};
 
 // A refusal of an operand passed on.
 fn passed(r: Num) -> LocationStep
-    ensures { λ q. ⌜ stepIn false (toldLocation q) ≡ stepOf (handed (got stop 0) (told r)) ⌝ }
+    ensures { λ q. ⌜ stepIn false (toldLocation q) ≡ stepOf (passedOn (gives (got stop 0)) (told r)) ⌝ }
 {
     match r {
         Num::Got(_, _) => LocationStep::End,

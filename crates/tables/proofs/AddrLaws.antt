@@ -1,5 +1,5 @@
 -- What the definitions of address tables say, case by case, and how large an address is.
-use mathlib.Core.Path.{_≡_, refl, sym, ap, _∙_}
+use mathlib.Core.Path.{_≡_, refl, sym, ap, subst, _∙_}
 use mathlib.Core.List.{List}
 use Prim.Native.Nat.{ℕ, _+_, _-_, _*_, _%_, _^_, _≤_, _<_}
 use native.Mathlib.Nat.{mod-zero, mod-lt}
@@ -8,8 +8,8 @@ use lib.Dec.{eqb}
 use lib.ListN.{length, getD, take}
 use lib.Seq.{length-take-le}
 use borrow.Author.Tests.{le-leb, lt-leb, eq-eqb, ne-eqb}
-use Rattle.bytes.specs.Read.{Read, got, refused, gives, andThen, result}
-use Rattle.bytes.specs.Error.{refusal, refusing, told, toldPlace}
+use Rattle.bytes.specs.Read.{Result, gives, refused, got, readThen}
+use Rattle.bytes.specs.Error.{refusal, told, toldPlace}
 use Rattle.bytes.specs.Common.{initialLengthSize}
 use Rattle.bytes.specs.Reader.{skip, address, partOf}
 use Rattle.bytes.specs.declared.common.DebugAddrBase.{DebugAddrBase}
@@ -25,7 +25,7 @@ use Rattle.bytes.proofs.ReaderTook.{address-took, address-lt}
 use Rattle.bytes.proofs.Took.{pick-ind}
 use Rattle.tables.specs.Header.{toldHead, head}
 use Rattle.tables.specs.Row.{rowAt}
-use Rattle.tables.specs.Next.{yields, ends, stopped}
+use Rattle.tables.specs.Next.{ends, hands}
 use Rattle.tables.specs.Addr.{addressAt, padding, tableOf, addrHeader, toldHeader, headersAt, onHeader, nextHeader, movedOn, onEntry, nextEntry}
 use Rattle.tables.specs.declared.header.Head.{Head}
 use Rattle.tables.specs.declared.header.HeadAnswer.{HeadAnswer}
@@ -41,44 +41,33 @@ use Rattle.tables.proofs.HeaderLaws.{got-is, head-is, head-fits, head-t
 -- the address of an index, by the place of its row
 module _ (o : RunTimeEndian) (size : ℕ) (base : DebugAddrBase) (index : DebugAddrIndex) (s : List ℕ) {r : Place}
     (p : toldPlace r ≡ rowAt (base .0) (index .0) size s) where
-  pub no-entry : {e : Error} → r ≡ place.Refused e → addressAt o size base index s ≡ refusing e
+  pub no-entry : {e : Error} → r ≡ place.Refused e → addressAt o size base index s ≡ refusal e
   unfolding addressAt
-  no-entry q = ap (result gives) (no-place-then _ p q)
+  no-entry q = no-place-then _ p q
 
   module _ {c : ℕ} (q : r ≡ place.At c) where
-    by-address : addressAt o size base index s ≡ result gives (address o size s c)
+    by-address : addressAt o size base index s ≡ readThen (address o size s c) (λ a _. gives a)
     unfolding addressAt
-    by-address = ap (result gives) (at-then _ p q)
+    by-address = at-then _ p q
 
     module _ {t : Num} (k : told t ≡ address o size s c) where
-      pub no-address : {e : Error} → t ≡ num.Refused e → addressAt o size base index s ≡ refusing e
+      pub no-address : {e : Error} → t ≡ num.Refused e → addressAt o size base index s ≡ refusal e
       no-address w = by-address ∙ rw (← k, w)
 
       pub address-found : {a d : ℕ} → t ≡ num.Got a d → addressAt o size base index s ≡ gives a
       address-found w = by-address ∙ rw (← k, w)
 
 -- an address of a table is below 2^(8 * size)
-abbrev Below : ℕ → Read ℕ → Type 0
-Below n (got a c) = a < n
+abbrev Below : ℕ → Result ℕ → Type 0
+Below n (gives a) = a < n
 Below n (refused k vs) = Unit
-
-given-below : (n : ℕ) (r : Read ℕ) {a : ℕ} → result gives r ≡ gives a → Below n r → a < n
-given-below n (got b c) {a} e l = let z : b ≡ a = cc in omega arith
-given-below n (refused k vs) e l = let z : _≡_ {A = ℕ} 0 1 = cc in absurd (omega arith)
-
-address-below : (o : RunTimeEndian) (size : ℕ) (s : List ℕ) (at : ℕ) → ((i : ℕ) → getD s i 0 < 256) → Below (2 ^ (8 * size)) (address o size s at)
-address-below o size s at b = cases (address o size s at) refl
-  where
-    cases : (r : Read ℕ) → address o size s at ≡ r → Below (2 ^ (8 * size)) r
-    cases (got a c) e = address-lt o size s at b e
-    cases (refused k vs) e = tt
 
 pub address-at-lt : (o : RunTimeEndian) (size : ℕ) (base : DebugAddrBase) (index : DebugAddrIndex) (s : List ℕ) {a : ℕ}
     → ((i : ℕ) → getD s i 0 < 256) → addressAt o size base index s ≡ gives a → a < 2 ^ (8 * size)
 unfolding addressAt
 address-at-lt o size base index s b e =
-    given-below (2 ^ (8 * size)) (andThen (rowAt (base .0) (index .0) size s) (λ _ c. address o size s c)) e
-    (then-ind (Below (2 ^ (8 * size))) (rowAt (base .0) (index .0) size s) _ (λ k vs. tt) (λ v c z. address-below o size s c b))
+    subst (Below (2 ^ (8 * size))) e (then-ind (Below (2 ^ (8 * size))) (rowAt (base .0) (index .0) size s) _ (λ k vs. tt) (λ v c z.
+    then-ind (Below (2 ^ (8 * size))) (address o size s c) _ (λ k vs. tt) (λ a d y. address-lt o size s c b y)))
 
 -- the bytes that bring a header to a multiple of a size
 pub no-padding : (n size : ℕ) → size ≡ 0 → 0 ≡ padding n size
@@ -104,7 +93,7 @@ module _ (o : RunTimeEndian) (s : List ℕ) (at : ℕ) {r : HeadAnswer} (p : tol
     unit-of = sym (length-take-le (h .end) s (head-fits o s at (head-is p q) .inside))
 
     module _ {n m : ℕ} (a : n ≡ initialLengthSize (h .format)) (b : m ≡ padding (n + 4) (h .«address_size»)) where
-      by-padding : addrHeader o s at ≡ andThen (skip m (take (h .end) s) c) (λ _ d. got (tableOf at h d) (h .end))
+      by-padding : addrHeader o s at ≡ readThen (skip m (take (h .end) s) c) (λ _ d. gives (got (tableOf at h d) (h .end)))
       unfolding addrHeader
       by-padding = head-then _ p q ∙ rw (b, a)
 
@@ -115,10 +104,10 @@ module _ (o : RunTimeEndian) (s : List ℕ) (at : ℕ) {r : HeadAnswer} (p : tol
         module _ {d : ℕ} (w : t ≡ place.At d) where
           pub table-inside : d ≤ h .end
           table-inside =
-              let e : skip m (take (h .end) s) c ≡ got tt d = sym k ∙ rw w in
+              let e : skip m (take (h .end) s) c ≡ gives (got tt d) = sym k ∙ rw w in
               omega (arith, unit-of, skip-inside m (take (h .end) s) c e .1)
 
-          pub table-got : addrHeader o s at ≡ got (tableOf at h d) (h .end)
+          pub table-got : addrHeader o s at ≡ gives (got (tableOf at h d) (h .end))
           table-got = by-padding ∙ at-then _ k w
 
 -- the walk over headers
@@ -133,10 +122,10 @@ module _ (o : RunTimeEndian) (s : List ℕ) (w : AddrHeaderIter) where
     by-header = simp (lt-leb (length s) (w .at) l)
 
     module _ {r : AddrHeaderAnswer} (p : toldHeader r ≡ addrHeader o s (w .at)) where
-      pub next-header : {h : AddrHeader} {c : ℕ} → r ≡ header.Header h c → nextHeader o s w ≡ yields h (headersAt c)
+      pub next-header : {h : AddrHeader} {c : ℕ} → r ≡ header.Header h c → nextHeader o s w ≡ hands (gives h) (headersAt c)
       next-header q = by-header ∙ rw (← p, q)
 
-      pub header-refused : {e : Error} → r ≡ header.Refused e → nextHeader o s w ≡ stopped e (headersAt (length s))
+      pub header-refused : {e : Error} → r ≡ header.Refused e → nextHeader o s w ≡ hands (refusal e) (headersAt (length s))
       header-refused q = by-header ∙ rw (← p, q)
 
 -- the walk at the end of its part, as the code makes it
@@ -158,7 +147,7 @@ module _ (o : RunTimeEndian) (s : List ℕ) (w : AddrEntryIter) {part : List ℕ
     by-entry = rw (← k) (let l : 0 < length part = omega arith in simp (lt-leb (length part) 0 l))
 
     module _ {r : Num} (p : told r ≡ address o (w .encoding .«address_size») part 0) where
-      pub next-entry : {a c : ℕ} → r ≡ num.Got a c → nextEntry o s w ≡ yields a (movedOn w c)
+      pub next-entry : {a c : ℕ} → r ≡ num.Got a c → nextEntry o s w ≡ hands (gives a) (movedOn w c)
       next-entry q = by-entry ∙ rw (← p, q)
 
       pub entry-inside : {a c : ℕ} → r ≡ num.Got a c → c ≤ w .entries .len
@@ -167,5 +156,5 @@ module _ (o : RunTimeEndian) (s : List ℕ) (w : AddrEntryIter) {part : List ℕ
           let i : c ≤ length part = (rw e at (address-took part part (w .encoding .«address_size») 0 o)) .1 in
           omega (arith, entries-fit .1)
 
-      pub entry-refused : {e : Error} → r ≡ num.Refused e → nextEntry o s w ≡ stopped e (emptied w)
+      pub entry-refused : {e : Error} → r ≡ num.Refused e → nextEntry o s w ≡ hands (refusal e) (emptied w)
       entry-refused q = let z : w .entries .len - w .entries .len ≡ 0 = omega arith in by-entry ∙ rw (← p, q, z)

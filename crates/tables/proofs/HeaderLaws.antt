@@ -8,8 +8,8 @@ use lib.Dec.{eqb}
 use lib.ListN.{length, take}
 use lib.Seq.{length-take-le}
 use borrow.Author.Tests.{le-leb, lt-leb, eq-eqb, ne-eqb}
-use Rattle.bytes.specs.Read.{Read, got, refused, gives, andThen, result, pick}
-use Rattle.bytes.specs.Error.{refusal, refusing, told, toldLength}
+use Rattle.bytes.specs.Read.{Result, gives, refused, got, Read, readThen, pick}
+use Rattle.bytes.specs.Error.{refusal, told, toldLength}
 use Rattle.bytes.specs.Reader.{uint, isSize, addressSize, initialLength, truncate}
 use Rattle.bytes.specs.declared.common.Encoding.{Encoding}
 use Rattle.bytes.specs.declared.common.DwarfFileType.{DwarfFileType}
@@ -34,14 +34,14 @@ use Rattle.tables.specs.declared.header.HeadAnswer.{HeadAnswer}
 use Rattle.tables.specs.declared.header.HeadAnswer.the-variants as answer
 
 -- what an answer told, taken apart
-pub got-is : {r : Num} {d : Read ℕ} {v c : ℕ} → told r ≡ d → r ≡ num.Got v c → d ≡ got v c
+pub got-is : {r : Num} {d : Read ℕ} {v c : ℕ} → told r ≡ d → r ≡ num.Got v c → d ≡ gives (got v c)
 got-is p q = sym p ∙ rw q
 
-pub head-is : {r : HeadAnswer} {d : Read Head} {h : Head} {c : ℕ} → toldHead r ≡ d → r ≡ answer.Got h c → d ≡ got h c
+pub head-is : {r : HeadAnswer} {d : Read Head} {h : Head} {c : ℕ} → toldHead r ≡ d → r ≡ answer.Got h c → d ≡ gives (got h c)
 head-is p q = sym p ∙ rw q
 
 module _ (n : ℕ) (s : List ℕ) (at : ℕ) where
-  pub uint-inside : (o : RunTimeEndian) {v c : ℕ} → uint o n s at ≡ got v c → c ≤ length s
+  pub uint-inside : (o : RunTimeEndian) {v c : ℕ} → uint o n s at ≡ gives (got v c) → c ≤ length s
   uint-inside o e = (rw e at (uint-took s s n at o)) .1
 
 module _ (s : List ℕ) (at : ℕ) where
@@ -51,7 +51,7 @@ module _ (s : List ℕ) (at : ℕ) where
 
 -- fields that were read in the bytes up to an end: it is the end that they tell, and they lie before it
 abbrev Within : ℕ → Read Head → Type 0
-Within end (got h c) = (h .end ≡ end) × (c ≤ end) × (isSize (h .«address_size») ≡ true)
+Within end (gives (got h c)) = (h .end ≡ end) × (c ≤ end) × (isSize (h .«address_size») ≡ true)
 Within end (refused k vs) = Unit
 
 -- fields that were read in a section
@@ -61,11 +61,11 @@ pub record Fits (s : List ℕ) (h : Head) (c : ℕ) : Type 0 where
   pub size : isSize (h .«address_size») ≡ true
 
 abbrev Inside : List ℕ → Read Head → Type 0
-Inside s (got h c) = Fits s h c
+Inside s (gives (got h c)) = Fits s h c
 Inside s (refused k vs) = Unit
 
 within-inside : (s : List ℕ) (end : ℕ) (r : Read Head) → end ≤ length s → Within end r → Inside s r
-within-inside s end (got h c) l w = record { inside = omega arith; before = omega arith; size = w .2 }
+within-inside s end (gives (got h c)) l w = record { inside = omega arith; before = omega arith; size = w .2 }
 within-inside s end (refused k vs) l w = tt
 
 fields-within : (o : RunTimeEndian) (unit : List ℕ) (u : UnitLength) (at : ℕ) → Within (length unit) (fields o unit u at)
@@ -85,22 +85,22 @@ head-inside o s at =
     let l = truncate-inside (u .length) s c z .1 in
     within-inside s end (fields o (take end s) u d) l (rw (length-take-le end s l) at (fields-within o (take end s) u d))))
 
-pub head-fits : (o : RunTimeEndian) (s : List ℕ) (at : ℕ) {h : Head} {c : ℕ} → head o s at ≡ got h c → Fits s h c
+pub head-fits : (o : RunTimeEndian) (s : List ℕ) (at : ℕ) {h : Head} {c : ℕ} → head o s at ≡ gives (got h c) → Fits s h c
 head-fits o s at e = rw e at (head-inside o s at)
 
 -- fields taken apart: they go on, or their refusal is the answer
-module _ {B : Type 0} {r : HeadAnswer} {d : Read Head} (f : Head → ℕ → Read B) (p : toldHead r ≡ d) where
-  pub head-then : {h : Head} {c : ℕ} → r ≡ answer.Got h c → andThen d f ≡ f h c
+module _ {B : Type 0} {r : HeadAnswer} {d : Read Head} (f : Head → ℕ → Result B) (p : toldHead r ≡ d) where
+  pub head-then : {h : Head} {c : ℕ} → r ≡ answer.Got h c → readThen d f ≡ f h c
   head-then q = rw (← p, q)
 
-  pub no-head-then : {e : Error} → r ≡ answer.Refused e → andThen d f ≡ refusal e
+  pub no-head-then : {e : Error} → r ≡ answer.Refused e → readThen d f ≡ refusal e
   no-head-then q = rw (← p, q)
 
-module _ {B : Type 0} {r : InitialLength} {d : Read UnitLength} (f : UnitLength → ℕ → Read B) (p : toldLength r ≡ d) where
-  unit-then : {u : UnitLength} {c : ℕ} → r ≡ initial.Got u c → andThen d f ≡ f u c
+module _ {B : Type 0} {r : InitialLength} {d : Read UnitLength} (f : UnitLength → ℕ → Result B) (p : toldLength r ≡ d) where
+  unit-then : {u : UnitLength} {c : ℕ} → r ≡ initial.Got u c → readThen d f ≡ f u c
   unit-then q = rw (← p, q)
 
-  no-unit-then : {e : Error} → r ≡ initial.Refused e → andThen d f ≡ refusal e
+  no-unit-then : {e : Error} → r ≡ initial.Refused e → readThen d f ≡ refusal e
   no-unit-then q = rw (← p, q)
 
 -- the fields after the length, one after the other
@@ -109,8 +109,8 @@ handed k q = rw (k, q)
 
 abbrev afterSize : List ℕ → UnitLength → ℕ → ℕ → Read Head
 afterSize unit u size d =
-    andThen (uint Little 1 unit d) (λ segment e.
-    pick (eqb segment 0) (got (headOf u (length unit) size) e) (refusal (UnsupportedSegmentSize segment)))
+    readThen (uint Little 1 unit d) (λ segment e.
+    pick (eqb segment 0) (gives (got (headOf u (length unit) size) e)) (refusal (UnsupportedSegmentSize segment)))
 
 module _ (o : RunTimeEndian) (unit : List ℕ) (u : UnitLength) (at : ℕ) {r : Num} (p : told r ≡ uint o 2 unit at) where
   pub no-version : {a : HeadAnswer} {e : Error} → a ≡ passedHead r → r ≡ num.Refused e → fields o unit u at ≡ toldHead a
@@ -123,7 +123,7 @@ module _ (o : RunTimeEndian) (unit : List ℕ) (u : UnitLength) (at : ℕ) {r : 
     other-version h = got-then _ p q ∙ simp (ne-eqb v 5 h)
 
     module _ (h : v ≡ 5) where
-      from-size : fields o unit u at ≡ andThen (addressSize unit c) (afterSize unit u)
+      from-size : fields o unit u at ≡ readThen (addressSize unit c) (afterSize unit u)
       unfolding fields
       from-size = got-then _ p q ∙ simp (eq-eqb v 5 h)
 
@@ -139,7 +139,7 @@ module _ (o : RunTimeEndian) (unit : List ℕ) (u : UnitLength) (at : ℕ) {r : 
             pub other-segment : (g ≡ 0 → ⊥) → fields o unit u at ≡ refusal (UnsupportedSegmentSize g)
             other-segment z = from-size ∙ got-then _ p1 q1 ∙ got-then _ p2 q2 ∙ simp (ne-eqb g 0 z)
 
-            pub fields-got : g ≡ 0 → fields o unit u at ≡ got (headOf u (length unit) size) e
+            pub fields-got : g ≡ 0 → fields o unit u at ≡ gives (got (headOf u (length unit) size) e)
             fields-got z = from-size ∙ got-then _ p1 q1 ∙ got-then _ p2 q2 ∙ simp (eq-eqb g 0 z)
 
 -- all fields, by the length
@@ -166,9 +166,9 @@ module _ (o : RunTimeEndian) (s : List ℕ) (at : ℕ) {r : InitialLength} (p : 
 
 -- the header of a set of lists, by its fields
 module _ (o : RunTimeEndian) (s : List ℕ) (at : ℕ) {r : HeadAnswer} (p : toldHead r ≡ head o s at) where
-  pub no-fields : {e : Error} → r ≡ answer.Refused e → listsHeader o s at ≡ refusing e
+  pub no-fields : {e : Error} → r ≡ answer.Refused e → listsHeader o s at ≡ refusal e
   unfolding listsHeader
-  no-fields q = ap (result gives) (no-head-then _ p q)
+  no-fields q = no-head-then _ p q
 
   module _ {h : Head} {c : ℕ} (q : r ≡ answer.Got h c) where
     pub fields-fit : Fits s h c
@@ -178,9 +178,9 @@ module _ (o : RunTimeEndian) (s : List ℕ) (at : ℕ) {r : HeadAnswer} (p : tol
     fields-length = sym (length-take-le (h .end) s (fields-fit .inside))
 
     module _ {t : Num} (k : told t ≡ uint o 4 (take (h .end) s) c) where
-      pub no-count : {e : Error} → t ≡ num.Refused e → listsHeader o s at ≡ refusing e
+      pub no-count : {e : Error} → t ≡ num.Refused e → listsHeader o s at ≡ refusal e
       unfolding listsHeader
-      no-count w = ap (result gives) (head-then _ p q ∙ refused-then _ k w)
+      no-count w = head-then _ p q ∙ refused-then _ k w
 
       module _ {n d : ℕ} (w : t ≡ num.Got n d) where
         pub count-inside : d ≤ h .end
@@ -188,7 +188,7 @@ module _ (o : RunTimeEndian) (s : List ℕ) (at : ℕ) {r : HeadAnswer} (p : tol
 
         pub lists-got : listsHeader o s at ≡ gives (parsed (headerOf h n) (restOf h d))
         unfolding listsHeader
-        lists-got = ap (result gives) (head-then _ p q ∙ got-then _ k w)
+        lists-got = head-then _ p q ∙ got-then _ k w
 
 -- where an offset table begins
 module _ (p : Encoding) (f : DwarfFileType) where

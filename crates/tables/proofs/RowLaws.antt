@@ -7,8 +7,8 @@ use native.Mathlib.Nat.{le-div-iff-mul-le, div-lt-iff-lt-mul, mul-le-mul}
 use native.Mathlib.Omega.{arith}
 use lib.Dec.{leb, ltb}
 use borrow.Author.Tests.{ltb-true, ltb-false, le-leb, lt-leb}
-use Rattle.bytes.specs.Read.{Result, gives, result}
-use Rattle.bytes.specs.Error.{refusal, refusing, told, toldPlace}
+use Rattle.bytes.specs.Read.{Result, gives, readThen}
+use Rattle.bytes.specs.Error.{refusal, told, toldPlace}
 use Rattle.bytes.specs.Common.{wordSize}
 use Rattle.bytes.specs.Reader.{skip, word}
 use Rattle.bytes.specs.declared.common.Format.{Format}
@@ -66,21 +66,21 @@ module _ (base index width : ℕ) (s : List ℕ) {r : Place} (p : toldPlace r �
 -- an offset, by the place of its row
 module _ (o : RunTimeEndian) (format : Format) (base index : ℕ) (s : List ℕ) {w : ℕ} (k : w ≡ wordSize format) {r : Place}
     (p : toldPlace r ≡ rowAt base index w s) where
-  pub no-row : {e : Error} → r ≡ place.Refused e → offsetAt o format base index s ≡ refusing e
+  pub no-row : {e : Error} → r ≡ place.Refused e → offsetAt o format base index s ≡ refusal e
   unfolding offsetAt
-  no-row q = rw (← k) (ap (result (fromBase base)) (no-place-then _ p q))
+  no-row q = rw (← k) (no-place-then _ p q)
 
   module _ {c : ℕ} (q : r ≡ place.At c) where
-    by-word : offsetAt o format base index s ≡ result (fromBase base) (word o format s c)
+    by-word : offsetAt o format base index s ≡ readThen (word o format s c) (λ x _. fromBase base x)
     unfolding offsetAt
-    by-word = rw (← k) (ap (result (fromBase base)) (at-then _ p q))
+    by-word = rw (← k) (at-then _ p q)
 
     module _ {t : Num} (u : told t ≡ word o format s c) where
-      pub no-word : {e : Error} → t ≡ num.Refused e → offsetAt o format base index s ≡ refusing e
+      pub no-word : {e : Error} → t ≡ num.Refused e → offsetAt o format base index s ≡ refusal e
       no-word v = by-word ∙ rw (← u, v)
 
       module _ {x d : ℕ} (v : t ≡ num.Got x d) where
-        pub offset-past : 2 ^ 64 ≤ base + x → offsetAt o format base index s ≡ refusing UnsupportedOffset
+        pub offset-past : 2 ^ 64 ≤ base + x → offsetAt o format base index s ≡ refusal UnsupportedOffset
         offset-past h = by-word ∙ rw (← u, v) (simp (le-leb (2 ^ 64) (base + x) h))
 
         pub offset-found : base + x < 2 ^ 64 → offsetAt o format base index s ≡ gives (base + x)
@@ -91,5 +91,5 @@ module _ {r : OffsetAnswer} {d : Result ℕ} (p : toldOffset r ≡ d) where
   pub offset-is : {x : ℕ} → r ≡ offset.Offset x → gives x ≡ d
   offset-is q = rw (← p, q)
 
-  pub no-offset : {e : Error} → r ≡ offset.Refused e → refusing e ≡ d
+  pub no-offset : {e : Error} → r ≡ offset.Refused e → refusal e ≡ d
   no-offset q = rw (← p, q)

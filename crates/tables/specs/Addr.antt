@@ -3,8 +3,8 @@ use Prim.Native.Nat.{ℕ, _+_, _-_, _%_}
 use mathlib.Core.List.{List}
 use lib.Dec.{leb, eqb}
 use lib.ListN.{length, take}
-use Rattle.bytes.specs.Read.{Read, got, refused, Result, gives, refuses, andThen, result, pick}
-use Rattle.bytes.specs.Error.{refusal, refusing, number, values}
+use Rattle.bytes.specs.Read.{Result, gives, refused, got, Read, readThen, pick}
+use Rattle.bytes.specs.Error.{refusal}
 use Rattle.bytes.specs.Common.{initialLengthSize}
 use Rattle.bytes.specs.Reader.{skip, address, partOf}
 use Rattle.bytes.specs.declared.Span.{Span}
@@ -14,7 +14,7 @@ use Rattle.bytes.specs.declared.endianity.RunTimeEndian.{RunTimeEndian}
 use Rattle.tables.specs.Header.{head}
 use Rattle.tables.specs.Lists.{encodingOf, restOf}
 use Rattle.tables.specs.Row.{rowAt}
-use Rattle.tables.specs.Next.{Next, yields, ends, stops, stopped}
+use Rattle.tables.specs.Next.{Next, ends, hands}
 use Rattle.tables.specs.declared.header.Head.{Head}
 use Rattle.tables.specs.declared.addr.AddressAnswer.{AddressAnswer}
 use Rattle.tables.specs.declared.addr.AddressAnswer.the-variants as answer
@@ -30,12 +30,12 @@ use Rattle.tables.specs.declared.addr.NextEntry.the-variants as entries
 
 abbrev pub toldAddress : AddressAnswer → Result ℕ
 toldAddress (answer.Address a) = gives a
-toldAddress (answer.Refused e) = refusing e
+toldAddress (answer.Refused e) = refusal e
 
 -- the address of an index: its row, then an address of the size
 unfoldable pub addressAt : RunTimeEndian → ℕ → DebugAddrBase → DebugAddrIndex → List ℕ → Result ℕ
 addressAt endian size base index s =
-    result gives (andThen (rowAt (base .0) (index .0) size s) (λ _ c. address endian size s c))
+    readThen (rowAt (base .0) (index .0) size s) (λ _ c. readThen (address endian size s c) (λ a _. gives a))
 
 -- gimli's rule, from DWARF's older tables: the first address stands at a multiple of the address size
 abbrev pub padding : ℕ → ℕ → ℕ
@@ -47,11 +47,11 @@ tableOf at h c = record { offset = record { 0 = at }; encoding = encodingOf h; l
 -- a table's header, and the place after the table
 unfoldable pub addrHeader : RunTimeEndian → List ℕ → ℕ → Read AddrHeader
 addrHeader endian s at =
-    andThen (head endian s at) (λ h c.
-    andThen (skip (padding (initialLengthSize (h .format) + 4) (h .«address_size»)) (take (h .end) s) c) (λ _ d. got (tableOf at h d) (h .end)))
+    readThen (head endian s at) (λ h c.
+    readThen (skip (padding (initialLengthSize (h .format) + 4) (h .«address_size»)) (take (h .end) s) c) (λ _ d. gives (got (tableOf at h d) (h .end))))
 
 abbrev pub toldHeader : AddrHeaderAnswer → Read AddrHeader
-toldHeader (header.Header h c) = got h c
+toldHeader (header.Header h c) = gives (got h c)
 toldHeader (header.Refused e) = refusal e
 
 -- the headers of a section, one after the other; a refusal leaves the walk at the section's end
@@ -59,16 +59,16 @@ abbrev pub headersAt : ℕ → AddrHeaderIter
 headersAt c = record { at = c }
 
 abbrev pub onHeader : ℕ → Read AddrHeader → Next AddrHeader AddrHeaderIter
-onHeader len (got h c) = yields h (headersAt c)
-onHeader len (refused n vs) = stops n vs (headersAt len)
+onHeader len (gives (got h c)) = hands (gives h) (headersAt c)
+onHeader len (refused n vs) = hands (refused n vs) (headersAt len)
 
 unfoldable pub nextHeader : RunTimeEndian → List ℕ → AddrHeaderIter → Next AddrHeader AddrHeaderIter
 nextHeader endian s w = pick (leb (length s) (w .at)) (ends w) (onHeader (length s) (addrHeader endian s (w .at)))
 
 abbrev pub toldNextHeader : NextHeader → Next AddrHeader AddrHeaderIter
-toldNextHeader (headers.Header h w) = yields h w
+toldNextHeader (headers.Header h w) = hands (gives h) w
 toldNextHeader (headers.End w) = ends w
-toldNextHeader (headers.Refused e w) = stopped e w
+toldNextHeader (headers.Refused e w) = hands (refusal e) w
 
 -- the addresses of a table, one after the other, in the part of the section that is left
 abbrev pub entriesOf : AddrHeader → AddrEntryIter
@@ -79,8 +79,8 @@ abbrev pub movedOn : AddrEntryIter → ℕ → AddrEntryIter
 movedOn w n = record { entries = record { offset = w .entries .offset + n; len = w .entries .len - n }; encoding = w .encoding }
 
 abbrev pub onEntry : AddrEntryIter → Read ℕ → Next ℕ AddrEntryIter
-onEntry w (got a c) = yields a (movedOn w c)
-onEntry w (refused n vs) = stops n vs (movedOn w (w .entries .len))
+onEntry w (gives (got a c)) = hands (gives a) (movedOn w c)
+onEntry w (refused n vs) = hands (refused n vs) (movedOn w (w .entries .len))
 
 abbrev pub nextIn : RunTimeEndian → List ℕ → AddrEntryIter → Next ℕ AddrEntryIter
 nextIn endian part w = pick (leb (length part) 0) (ends w) (onEntry w (address endian (w .encoding .«address_size») part 0))
@@ -89,6 +89,6 @@ unfoldable pub nextEntry : RunTimeEndian → List ℕ → AddrEntryIter → Next
 nextEntry endian s w = nextIn endian (partOf s (w .entries .offset) (w .entries .len)) w
 
 abbrev pub toldNextEntry : NextEntry → Next ℕ AddrEntryIter
-toldNextEntry (entries.Address a w) = yields a w
+toldNextEntry (entries.Address a w) = hands (gives a) w
 toldNextEntry (entries.End w) = ends w
-toldNextEntry (entries.Refused e w) = stopped e w
+toldNextEntry (entries.Refused e w) = hands (refusal e) w

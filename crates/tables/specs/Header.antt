@@ -3,7 +3,7 @@ use Prim.Native.Nat.{ℕ}
 use mathlib.Core.List.{List}
 use lib.Dec.{eqb}
 use lib.ListN.{length, take}
-use Rattle.bytes.specs.Read.{Read, got, refused, andThen, pick}
+use Rattle.bytes.specs.Read.{gives, got, Read, readThen, pick}
 use Rattle.bytes.specs.Error.{refusal}
 use Rattle.bytes.specs.Reader.{uint, addressSize, initialLength, truncate}
 use Rattle.bytes.specs.declared.UnitLength.{UnitLength}
@@ -17,7 +17,7 @@ use Rattle.tables.specs.declared.header.HeadAnswer.{HeadAnswer}
 use Rattle.tables.specs.declared.header.HeadAnswer.the-variants as answer
 
 abbrev pub toldHead : HeadAnswer → Read Head
-toldHead (answer.Got h c) = got h c
+toldHead (answer.Got h c) = gives (got h c)
 toldHead (answer.Refused e) = refusal e
 
 -- a refusal handed on by the code
@@ -31,14 +31,14 @@ headOf u end size = record { length = u .length; format = u .format; end = end; 
 -- the fields after the length, in the bytes up to the unit's end: only version 5, and no segment selectors
 unfoldable pub fields : RunTimeEndian → List ℕ → UnitLength → ℕ → Read Head
 fields endian unit u at =
-    andThen (uint endian 2 unit at) (λ version c.
+    readThen (uint endian 2 unit at) (λ version c.
     pick (eqb version 5)
-    (andThen (addressSize unit c) (λ size d.
-    andThen (uint Little 1 unit d) (λ segment e.
-    pick (eqb segment 0) (got (headOf u (length unit) size) e) (refusal (UnsupportedSegmentSize segment)))))
+    (readThen (addressSize unit c) (λ size d.
+    readThen (uint Little 1 unit d) (λ segment e.
+    pick (eqb segment 0) (gives (got (headOf u (length unit) size) e)) (refusal (UnsupportedSegmentSize segment)))))
     (refusal (UnknownVersion version)))
 
 unfoldable pub head : RunTimeEndian → List ℕ → ℕ → Read Head
 head endian s at =
-    andThen (initialLength endian s at) (λ u c.
-    andThen (truncate (u .length) s c) (λ end d. fields endian (take end s) u d))
+    readThen (initialLength endian s at) (λ u c.
+    readThen (truncate (u .length) s c) (λ end d. fields endian (take end s) u d))

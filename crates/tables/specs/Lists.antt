@@ -3,8 +3,8 @@ use Prim.Native.Nat.{ℕ, _+_, _-_}
 use mathlib.Core.List.{List}
 use lib.Dec.{leb}
 use lib.ListN.{take}
-use Rattle.bytes.specs.Read.{Read, got, refused, Result, gives, refuses, andThen, result, pick}
-use Rattle.bytes.specs.Error.{refusing}
+use Rattle.bytes.specs.Read.{Result, gives, readThen, pick}
+use Rattle.bytes.specs.Error.{refusal}
 use Rattle.bytes.specs.Common.{initialLengthSize}
 use Rattle.bytes.specs.Reader.{uint}
 use Rattle.bytes.specs.declared.Span.{Span}
@@ -28,7 +28,7 @@ parsed h r = record { header = h; rest = r }
 
 abbrev pub toldLists : ListsAnswer → Result Parsed
 toldLists (answer.Header h r) = gives (parsed h r)
-toldLists (answer.Refused e) = refusing e
+toldLists (answer.Refused e) = refusal e
 
 -- how a unit of version 5 is written, by its fields
 abbrev pub encodingOf : Head → Encoding
@@ -44,8 +44,8 @@ headerOf h count = record { encoding = encodingOf h; «offset_entry_count» = co
 -- the fields, then four bytes that count the offsets, inside the unit
 unfoldable pub listsHeader : RunTimeEndian → List ℕ → ℕ → Result Parsed
 listsHeader endian s at =
-    result gives (andThen (head endian s at) (λ h c.
-    andThen (uint endian 4 (take (h .end) s) c) (λ count d. got (parsed (headerOf h count) (restOf h d)) d)))
+    readThen (head endian s at) (λ h c.
+    readThen (uint endian 4 (take (h .end) s) c) (λ count d. gives (parsed (headerOf h count) (restOf h d))))
 
 -- unit_length, version, address_size, segment_selector_size, offset_entry_count
 abbrev pub headerSize : Encoding → ℕ

@@ -2,8 +2,8 @@
 use Prim.Native.Nat.{ℕ, _+_, _*_, _^_}
 use mathlib.Core.List.{List}
 use lib.Dec.{leb}
-use Rattle.bytes.specs.Read.{Read, got, refused, Result, gives, refuses, andThen, result, pick}
-use Rattle.bytes.specs.Error.{refusal, refusing}
+use Rattle.bytes.specs.Read.{Result, gives, Read, readThen, pick}
+use Rattle.bytes.specs.Error.{refusal}
 use Rattle.bytes.specs.Common.{wordSize}
 use Rattle.bytes.specs.Reader.{skip, word}
 use Rattle.bytes.specs.declared.common.Format.{Format}
@@ -25,31 +25,31 @@ use Rattle.tables.specs.declared.loclists.LocationOffsetAnswer.the-varia
 -- where the row of an index starts; a product at or above 2^64 is refused before the row is looked for
 unfoldable pub rowAt : ℕ → ℕ → ℕ → List ℕ → Read Unit
 rowAt base index width s =
-    andThen (skip base s 0) (λ _ b. pick (leb (2 ^ 64) (index * width)) (refusal UnsupportedOffset) (skip (index * width) s b))
+    readThen (skip base s 0) (λ _ b. pick (leb (2 ^ 64) (index * width)) (refusal UnsupportedOffset) (skip (index * width) s b))
 
 -- an offset counted from the base, counted from the section's start
 abbrev pub fromBase : ℕ → ℕ → Result ℕ
-fromBase base x = pick (leb (2 ^ 64) (base + x)) (refusing UnsupportedOffset) (gives (base + x))
+fromBase base x = pick (leb (2 ^ 64) (base + x)) (refusal UnsupportedOffset) (gives (base + x))
 
 unfoldable pub offsetAt : RunTimeEndian → Format → ℕ → ℕ → List ℕ → Result ℕ
 offsetAt endian format base index s =
-    result (fromBase base) (andThen (rowAt base index (wordSize format) s) (λ _ c. word endian format s c))
+    readThen (rowAt base index (wordSize format) s) (λ _ c. readThen (word endian format s c) (λ x _. fromBase base x))
 
 abbrev pub toldOffset : OffsetAnswer → Result ℕ
 toldOffset (offset.Offset x) = gives x
-toldOffset (offset.Refused e) = refusing e
+toldOffset (offset.Refused e) = refusal e
 
 -- the two sections' offsets are types of their own
 abbrev pub toldRangeOffset : RangeOffsetAnswer → Result ℕ
 toldRangeOffset (range.Offset x) = gives (x .0)
-toldRangeOffset (range.Refused e) = refusing e
+toldRangeOffset (range.Refused e) = refusal e
 
 abbrev pub rangeOffset : RunTimeEndian → Format → DebugRngListsBase → DebugRngListsIndex → List ℕ → Result ℕ
 rangeOffset endian format base index s = offsetAt endian format (base .0) (index .0) s
 
 abbrev pub toldLocationOffset : LocationOffsetAnswer → Result ℕ
 toldLocationOffset (location.Offset x) = gives (x .0)
-toldLocationOffset (location.Refused e) = refusing e
+toldLocationOffset (location.Refused e) = refusal e
 
 abbrev pub locationOffset : RunTimeEndian → Format → DebugLocListsBase → DebugLocListsIndex → List ℕ → Result ℕ
 locationOffset endian format base index s = offsetAt endian format (base .0) (index .0) s
