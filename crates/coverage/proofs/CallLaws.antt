@@ -3,14 +3,15 @@
 use mathlib.Core.Path.{_≡_, refl, sym, ap}
 use mathlib.Core.List.{List, [], _∷_, _++_, append-assoc, append-nil}
 use Prim.Native.Nat.{ℕ, zero, suc}
-use Rattle.bytes.specs.Read.{Result, gives, refuses}
-use Rattle.bytes.specs.Error.{refusing}
+use Rattle.coverage.proofs.CoveredLaws.{mapped}
+use Rattle.bytes.specs.Read.{Result, gives, refused}
+use Rattle.bytes.specs.Error.{refusal}
 use Rattle.bytes.specs.declared.error.Error.the-variants.{TooManyRanges}
 use Rattle.lists.specs.Open.{opened}
-use Rattle.lists.specs.Walk.{Item, item, Trace, over, gave, lost}
+use Rattle.lists.specs.Walk.{Item, item, Trace, over, handed}
 use Rattle.lists.specs.declared.Walk.{Walk}
 use Rattle.coverage.specs.Ranges.{Range, limit, runs}
-use Rattle.coverage.specs.Covered.{mapped, yieldedIn, Source, traceOf, yieldedOf, coverageOf}
+use Rattle.coverage.specs.Covered.{yieldedIn, Source, traceOf, yieldedOf, coverageOf}
 
 -- the ranges gathered so far, and those still to come
 abbrev pub after : List Range → Result (List Range) → Result (List Range)
@@ -18,11 +19,11 @@ after done r = mapped (λ rs. done ++ rs) r
 
 after-none : (r : Result (List Range)) → r ≡ after [] r
 after-none (gives rs) = refl
-after-none (refuses n vs) = refl
+after-none (refused n vs) = refl
 
 after-one : (done : List Range) (x : Range) (r : Result (List Range)) → after done (mapped (λ rs. x ∷ rs) r) ≡ after (done ++ (x ∷ [])) r
 after-one done x (gives rs) = ap gives (sym (append-assoc done (x ∷ []) rs))
-after-one done x (refuses n vs) = refl
+after-one done x (refused n vs) = refl
 
 module _ {D : Type 0} (t : Trace D) where
   pub gather-none : (room : ℕ) → yieldedIn room t ≡ after [] (yieldedIn room t)
@@ -30,7 +31,7 @@ module _ {D : Type 0} (t : Trace D) where
 
   module _ (done : List Range) where
     -- a range more, and the three ways in which the gathering ends
-    pub gather-more : (room : ℕ) {b e : ℕ} {d : D} {w : Walk} {u : Trace D} → t ≡ gave (item b e d) w u
+    pub gather-more : (room : ℕ) {b e : ℕ} {d : D} {w : Walk} {u : Trace D} → t ≡ handed (gives (item b e d)) w u
         → after done (yieldedIn (suc room) t) ≡ after (done ++ ((b, e) ∷ [])) (yieldedIn room u)
     unfolding yieldedIn
     gather-more room {b} {e} {d} {w} {u} q = rw q (after-one done (b, e) (yieldedIn room u))
@@ -39,17 +40,17 @@ module _ {D : Type 0} (t : Trace D) where
     unfolding yieldedIn
     gather-over room q = rw q (ap gives (append-nil done))
 
-    pub gather-lost : (room : ℕ) {n : ℕ} {vs : List ℕ} {w : Walk} {u : Trace D} → t ≡ lost n vs w u → after done (yieldedIn room t) ≡ refuses n vs
+    pub gather-lost : (room : ℕ) {n : ℕ} {vs : List ℕ} {w : Walk} {u : Trace D} → t ≡ handed (refused n vs) w u → after done (yieldedIn room t) ≡ refused n vs
     unfolding yieldedIn
     gather-lost room q = rw q
 
-    pub gather-many : {i : Item D} {w : Walk} {u : Trace D} → t ≡ gave i w u → after done (yieldedIn zero t) ≡ refusing TooManyRanges
+    pub gather-many : {i : Item D} {w : Walk} {u : Trace D} → t ≡ handed (gives i) w u → after done (yieldedIn zero t) ≡ refusal TooManyRanges
     unfolding yieldedIn
     gather-many q = rw q
 
 -- the coverage of a list from its opening on
 module _ (x : Source) where
-  pub coverage-refused : {n : ℕ} {vs : List ℕ} → opened (x .encoding) (x .section) (x .offset) (x .«base_address») ≡ refuses n vs → coverageOf x ≡ refuses n vs
+  pub coverage-refused : {n : ℕ} {vs : List ℕ} → opened (x .encoding) (x .section) (x .offset) (x .«base_address») ≡ refused n vs → coverageOf x ≡ refused n vs
   unfolding coverageOf yieldedOf
   coverage-refused e = rw e
 

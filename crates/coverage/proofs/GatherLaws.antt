@@ -9,8 +9,9 @@ use native.Mathlib.Numerals.{add-one}
 use native.Mathlib.Omega.{arith}
 use lib.ListN.{length, take, getD, set, replicate, length-take, length-set, length-replicate, replicate-append-replicate}
 use lib.Seq.{take-suc-set}
-use Rattle.bytes.specs.Read.{Result, gives, refuses}
-use Rattle.bytes.specs.Error.{number, values, refusing}
+use Rattle.coverage.proofs.CoveredLaws.{mapped}
+use Rattle.bytes.specs.Read.{Result, gives, refused}
+use Rattle.bytes.specs.Error.{number, values, refusal}
 use Rattle.bytes.specs.declared.common.DebugAddrBase.{DebugAddrBase}
 use Rattle.bytes.specs.declared.common.Encoding.{Encoding}
 use Rattle.bytes.specs.declared.endianity.RunTimeEndian.{RunTimeEndian}
@@ -19,10 +20,10 @@ use Rattle.bytes.specs.declared.error.Error.the-variants.{TooManyRanges}
 use Rattle.lists.specs.Open.{opened}
 use Rattle.lists.specs.Convert.{tableAt}
 use Rattle.lists.specs.Walk as both
-use Rattle.lists.specs.Walk.{Item, item, Trace, over, gave, lost, trace}
+use Rattle.lists.specs.Walk.{Item, item, Trace, over, trace, handed}
 use Rattle.lists.specs.declared.Walk.{Walk}
 use Rattle.coverage.specs.Ranges.{Range, Apart, limit, runs}
-use Rattle.coverage.specs.Covered.{mapped, yieldedIn, holding, Source, source, listed, traceOf, yieldedOf, coverageOf, Bytes}
+use Rattle.coverage.specs.Covered.{yieldedIn, holding, Source, source, listed, traceOf, yieldedOf, coverageOf, Bytes}
 use Rattle.coverage.specs.Kept.{paired, firsts, padded, keptAs}
 use Rattle.coverage.specs.Gathered.{Stored, Zeros, Blank, toldCollected, RunsApart, Asked, Gathered, toldOutcome}
 use Rattle.coverage.specs.Sorted.{Sized, SameFrom, ToRuns}
@@ -108,7 +109,7 @@ module _ {D : Type 0} {t : Trace D} {bs es : List ℕ} where
       }
 
   module _ {all : Result (List Range)} {n : ℕ} (g : Gathering all t bs es n) where
-    more : {b e : ℕ} {d : D} {w : Walk} {u : Trace D} → n < limit → t ≡ gave (item b e d) w u → Gathering all u (set bs n b) (set es n e) (n + 1)
+    more : {b e : ℕ} {d : D} {w : Walk} {u : Trace D} → n < limit → t ≡ handed (gives (item b e d)) w u → Gathering all u (set bs n b) (set es n e) (n + 1)
     more {b} {e} {d} {w} {u} h q =
         let r : limit - n ≡ suc (limit - (n + 1)) = omega arith in
         let lb = g .sized .0 in
@@ -127,12 +128,12 @@ module _ {D : Type 0} {t : Trace D} {bs es : List ℕ} where
           rest = (zeros-more bs n b (g .rest .0), zeros-more es n e (g .rest .1));
         }
 
-    many : {i : Item D} {w : Walk} {u : Trace D} → limit ≤ n → t ≡ gave i w u → Gathered all (collected.Refused TooManyRanges) bs es
+    many : {i : Item D} {w : Walk} {u : Trace D} → limit ≤ n → t ≡ handed (gives i) w u → Gathered all (collected.Refused TooManyRanges) bs es
     many h q =
         let r : limit - n ≡ 0 = omega arith in
         record { told = sym (gather-many t (firsts n bs es) q) ∙ (rw r at (g .same)); few = tt; sized = g .sized; rest = tt }
 
-    module _ {r : Bool} {b e : ℕ} {d : D} {w : Walk} {u : Trace D} {xs ys : List ℕ} (s : Stored r (b, e) n bs es xs ys) (q : t ≡ gave (item b e d) w u) where
+    module _ {r : Bool} {b e : ℕ} {d : D} {w : Walk} {u : Trace D} {xs ys : List ℕ} (s : Stored r (b, e) n bs es xs ys) (q : t ≡ handed (gives (item b e d)) w u) where
       -- a range more, or no room for it
       pub gathering-more : r ≡ true → Gathering all u xs ys (n + 1)
       gathering-more h =
@@ -148,7 +149,7 @@ module _ {D : Type 0} {t : Trace D} {bs es : List ℕ} where
     gathering-over q =
         record { told = sym (gather-over t (firsts n bs es) (limit - n) q) ∙ g .same; few = g .few; sized = g .sized; rest = g .rest }
 
-    pub gathering-lost : {e : Error} {w : Walk} {u : Trace D} → t ≡ lost (number e) (values e) w u → Gathered all (collected.Refused e) bs es
+    pub gathering-lost : {e : Error} {w : Walk} {u : Trace D} → t ≡ handed (refused (number e) (values e)) w u → Gathered all (collected.Refused e) bs es
     gathering-lost q =
         record { told = sym (gather-lost t (firsts n bs es) (limit - n) q) ∙ g .same; few = tt; sized = g .sized; rest = tt }
 
@@ -212,7 +213,7 @@ unfolding padded
 outcome-blank o bs es b = rw (b .0, b .1)
 
 pub covered-refused : (k : Collected) (bs es : List ℕ) (o : Outcome) {e : Error} {xs ys : List ℕ} → k ≡ collected.Refused e → xs ≡ padded (take 0 bs) → ys ≡ padded (take 0 es)
-    → toldOutcome o (padded []) (padded []) ≡ made (refusing e) → toldOutcome o xs ys ≡ made (mapped runs (toldCollected k bs es))
+    → toldOutcome o (padded []) (padded []) ≡ made (refusal e) → toldOutcome o xs ys ≡ made (mapped runs (toldCollected k bs es))
 covered-refused k bs es o q p r h = rw (q, p, r) h
 
 -- the coverage of ranges gathered, from their runs
@@ -249,7 +250,7 @@ module _ (x : Source) {w : Walk} (o : opened (x .encoding) (x .section) (x .offs
 
   small-apart : (r : Result (List Range)) → Given Small r → RunsApart r
   small-apart (gives rs) h = runs-apart rs (small-proper rs h)
-  small-apart (refuses n vs) h = tt
+  small-apart (refused n vs) h = tt
 
   walked-apart : Bytes x → RunsApart walked
   unfolding yieldedOf traceOf

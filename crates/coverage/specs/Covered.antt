@@ -3,8 +3,8 @@ use mathlib.Core.Bool.{Bool, true, false}
 use mathlib.Core.List.{List, [], _∷_}
 use Prim.Native.Nat.{ℕ, zero, suc, _<_}
 use lib.ListN.{length, getD}
-use Rattle.bytes.specs.Read.{Result, gives, refuses}
-use Rattle.bytes.specs.Error.{refusing}
+use Rattle.bytes.specs.Read.{Result, gives, refused, andThen}
+use Rattle.bytes.specs.Error.{refusal}
 use Rattle.bytes.specs.declared.common.DebugAddrBase.{DebugAddrBase}
 use Rattle.bytes.specs.declared.common.Encoding.{Encoding}
 use Rattle.bytes.specs.declared.common.Format.{Format}
@@ -13,27 +13,17 @@ use Rattle.bytes.specs.declared.endianity.RunTimeEndian.the-variants.{Little}
 use Rattle.bytes.specs.declared.error.Error.the-variants.{TooManyRanges}
 use Rattle.lists.specs.Open.{opened}
 use Rattle.lists.specs.Convert.{tableAt}
-use Rattle.lists.specs.Walk.{Listing, ranges, locations, item, Trace, over, gave, lost, trace}
+use Rattle.lists.specs.Walk.{Listing, ranges, locations, item, Trace, over, trace, handed}
 use Rattle.lists.specs.declared.Walk.{Walk}
 use Rattle.coverage.specs.Ranges.{Range, Covers, limit, runs}
-
--- a function of what is given; a refusal stays
-abbrev pub mapped : {A B : Type 0} → (A → B) → Result A → Result B
-mapped f (gives a) = gives (f a)
-mapped f (refuses n vs) = refuses n vs
-
--- what follows what is given; a refusal is the answer
-abbrev pub onward : {A B : Type 0} → Result A → (A → Result B) → Result B
-onward (gives a) f = f a
-onward (refuses n vs) f = refuses n vs
 
 -- the ranges that a list yields, in order, with room for some number of them: the first refusal met is the answer, or
 -- refusal 10 at the first range without room, whichever comes first (document 01, "Refusals")
 unfoldable pub yieldedIn : {D : Type 0} → ℕ → Trace D → Result (List Range)
 yieldedIn room (over w) = gives []
-yieldedIn room (lost n vs w t) = refuses n vs
-yieldedIn zero (gave i w t) = refusing TooManyRanges
-yieldedIn (suc room) (gave (item b e d) w t) = mapped (λ rs. (b, e) ∷ rs) (yieldedIn room t)
+yieldedIn room (handed (refused n vs) w t) = refused n vs
+yieldedIn zero (handed (gives i) w t) = refusal TooManyRanges
+yieldedIn (suc room) (handed (gives (item b e d)) w t) = andThen (yieldedIn room t) (λ rs. gives ((b, e) ∷ rs))
 
 -- whether a list holds ranges or locations, and then whether it is split (document 01, "Demand 3")
 pub data Holds : Type 0 where
@@ -84,16 +74,16 @@ traceOf x w =
 
 -- the ranges that a list yields: its opening, then its walk (document 01, "Demand 3")
 unfoldable pub yieldedOf : Source → Result (List Range)
-yieldedOf x = onward (opened (x .encoding) (x .section) (x .offset) (x .«base_address»)) (λ w. yieldedIn limit (traceOf x w))
+yieldedOf x = andThen (opened (x .encoding) (x .section) (x .offset) (x .«base_address»)) (λ w. yieldedIn limit (traceOf x w))
 
 -- the coverage of a list, or its refusal (document 01, "Coverage")
 unfoldable pub coverageOf : Source → Result (List Range)
-coverageOf x = mapped runs (yieldedOf x)
+coverageOf x = andThen (yieldedOf x) (λ rs. gives (runs rs))
 
 -- the addresses inside some range that is given; a refused list covers nothing
 abbrev pub CoversGiven : Result (List Range) → ℕ → Type 0
 CoversGiven (gives rs) a = Covers rs a
-CoversGiven (refuses n vs) a = ⊥
+CoversGiven (refused n vs) a = ⊥
 
 -- the addresses inside some range that a list yields (document 01, "Coverage")
 abbrev pub CoveredBy : Source → ℕ → Type 0

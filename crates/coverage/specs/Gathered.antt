@@ -4,8 +4,8 @@ use mathlib.Core.List.{List}
 use mathlib.Core.Path.{_≡_}
 use Prim.Native.Nat.{ℕ, _≤_, _<_}
 use lib.ListN.{set, getD, replicate}
-use Rattle.bytes.specs.Read.{Result, gives, refuses}
-use Rattle.bytes.specs.Error.{refusing}
+use Rattle.bytes.specs.Read.{Result, gives, refused}
+use Rattle.bytes.specs.Error.{refusal}
 use Rattle.coverage.specs.Ranges.{Range, Apart, limit, runs}
 use Rattle.coverage.specs.Kept.{firsts}
 use Rattle.coverage.specs.Sorted.{Sized}
@@ -30,7 +30,7 @@ Blank bs es = (bs ≡ replicate limit 0) × (es ≡ replicate limit 0)
 -- as many ranges as were counted, from the front of two arrays, or the refusal
 abbrev pub toldCollected : Collected → List ℕ → List ℕ → Result (List Range)
 toldCollected (collected.Got n) bs es = gives (firsts n bs es)
-toldCollected (collected.Refused e) bs es = refusing e
+toldCollected (collected.Refused e) bs es = refusal e
 
 -- no more than there is room for
 abbrev pub Few : Collected → Type 0
@@ -40,7 +40,7 @@ Few (collected.Refused e) = Unit
 -- the runs of the ranges that are given keep apart
 abbrev pub RunsApart : Result (List Range) → Type 0
 RunsApart (gives rs) = Apart (runs rs)
-RunsApart (refuses n vs) = Unit
+RunsApart (refused n vs) = Unit
 
 -- 0 at the places past the ranges
 abbrev pub Rest : Collected → List ℕ → List ℕ → Type 0

@@ -19,13 +19,14 @@ ghost use mathlib.Core.Bool.{true};
 ghost use Prim.Native.Nat.{_≤_};
 ghost use lib.ListN.{length, take};
 ghost use mathlib.Core.List.{[]};
-ghost use Rattle.bytes.specs.Error.{refusing};
+ghost use Rattle.bytes.specs.Read.{gives, andThen};
+ghost use Rattle.bytes.specs.Error.{refusal};
 ghost use Rattle.bytes.specs.declared.common.Format.the-variants.{Dwarf32};
 ghost use Rattle.bytes.specs.Reader.{isSize};
 ghost use Rattle.lists.specs.Convert.{tableAt};
 ghost use Rattle.lists.specs.Walk.{trace, listed};
 ghost use Rattle.coverage.specs.Ranges.{limit, runs};
-ghost use Rattle.coverage.specs.Covered.{mapped, yieldedIn, rangeList, locationList, holding, source, coverageOf, readBack};
+ghost use Rattle.coverage.specs.Covered.{yieldedIn, rangeList, locationList, holding, source, coverageOf, readBack};
 ghost use Rattle.coverage.specs.Kept.{padded};
 ghost use Rattle.coverage.specs.Told.{made, toldMade};
 ghost use Rattle.coverage.specs.Sorted.{Sized};
@@ -120,7 +121,7 @@ fn clear(a: &mut [u64; LIMIT], r: usize, n: usize)
 
 // A refusal keeps nothing.
 fn refused(e: Error) -> Outcome
-    ensures { λ r. ⌜ toldOutcome r (padded []) (padded []) ≡ made (refusing e) ⌝ }
+    ensures { λ r. ⌜ toldOutcome r (padded []) (padded []) ≡ made (refusal e) ⌝ }
 {
     Outcome {
         verdict: Verdict::Refused(e),
@@ -131,7 +132,7 @@ fn refused(e: Error) -> Outcome
 // The coverage of the ranges gathered: their runs, which are then the first places, 0 past them.
 fn covered(collected: Collected, begins: &mut [u64; LIMIT], ends: &mut [u64; LIMIT]) -> Outcome
     requires { ⌜ Asked collected (now begins) (now ends) ⌝ }
-    ensures { λ r. ⌜ toldOutcome r (now (begins .exit)) (now (ends .exit)) ≡ made (mapped runs (toldCollected collected (now (begins .entry)) (now (ends .entry)))) ⌝ }
+    ensures { λ r. ⌜ toldOutcome r (now (begins .exit)) (now (ends .exit)) ≡ made (andThen (toldCollected collected (now (begins .entry)) (now (ends .entry))) (λ rs. gives (runs rs))) ⌝ }
 {
     match collected {
         Collected::Refused(e) => {

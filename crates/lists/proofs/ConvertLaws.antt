@@ -5,8 +5,8 @@ use mathlib.Core.List.{List}
 use Prim.Native.Nat.{ℕ, _≤_, _<_}
 use lib.ListN.{length}
 use borrow.Author.Tests.{le-leb, lt-leb}
-use Rattle.bytes.specs.Read.{Read, Result, gives}
-use Rattle.bytes.specs.Error.{number, values, refusing}
+use Rattle.bytes.specs.Read.{Result, gives, refused, Read, andThen}
+use Rattle.bytes.specs.Error.{refusal}
 use Rattle.bytes.specs.Reader.{isSize}
 use Rattle.bytes.specs.Address.{addSized, minTombstone}
 use Rattle.bytes.specs.declared.common.DebugAddrIndex.{DebugAddrIndex}
@@ -14,42 +14,42 @@ use Rattle.bytes.specs.declared.common.Encoding.{Encoding}
 use Rattle.bytes.specs.declared.error.Error.{Error}
 use Rattle.bytes.specs.declared.error.Error.the-variants.{UnexpectedEof, UnsupportedAddressSize}
 use Rattle.tables.specs.Addr.{toldAddress}
-use Rattle.tables.specs.Next.{yields, ends, stops, stopped}
+use Rattle.tables.specs.Next.{ends, hands}
 use Rattle.tables.specs.declared.addr.AddressAnswer.{AddressAnswer}
 use Rattle.tables.specs.declared.addr.AddressAnswer.the-variants as address
 use Rattle.entries.specs.Forms.{Raw}
 use Rattle.entries.specs.declared.RawRngListEntry.{RawRngListEntry}
-use Rattle.entries.specs.Told.{found, ended, failed, stepOf}
+use Rattle.entries.specs.Told.{found, ended, stepOf}
 use Rattle.entries.proofs.StepLaws.{step-found, step-ended, step-failed}
 use Rattle.lists.specs.Open.{walkAt, opened, sectionFor}
-use Rattle.lists.specs.Convert.{Turn, range, skip, told, bounded, offsets, looked, passedOf, convert}
-use Rattle.lists.specs.Walk.{Listing, onRaw, nextRaw, refuses, outcome, converted}
+use Rattle.lists.specs.Convert.{Turn, range, skip, told, bounded, offsets, passedOf, convert}
+use Rattle.lists.specs.Walk.{Listing, onRaw, nextRaw, outcome, converted, comes}
 use Rattle.lists.specs.declared.Walk.{Walk}
 use Rattle.lists.specs.declared.convert.Converted.{Converted}
 
 -- the tombstone bound t as the code has it
 module _ (size : ℕ) {t : ℕ} (f : t ≡ minTombstone size) where
-  pub begin-skipped : (b e : ℕ) → t ≤ b → skip ≡ bounded size b e
+  pub begin-skipped : (b e : ℕ) → t ≤ b → gives skip ≡ bounded size b e
   begin-skipped b e h = rw (← f) (simp (le-leb _ _ h))
 
-  pub end-skipped : (b e : ℕ) → b < t → e ≤ b → skip ≡ bounded size b e
+  pub end-skipped : (b e : ℕ) → b < t → e ≤ b → gives skip ≡ bounded size b e
   end-skipped b e h l = rw (← f) (simp (lt-leb _ _ h, le-leb _ _ l))
 
-  pub kept : (b e : ℕ) → b < t → b < e → range b e ≡ bounded size b e
+  pub kept : (b e : ℕ) → b < t → b < e → gives (range b e) ≡ bounded size b e
   kept b e h l = rw (← f) (simp (lt-leb _ _ h, lt-leb _ _ l))
 
-  pub base-skipped : (base b e : ℕ) → t ≤ base → skip ≡ offsets size base b e
+  pub base-skipped : (base b e : ℕ) → t ≤ base → gives skip ≡ offsets size base b e
   base-skipped base b e h = rw (← f) (simp (le-leb _ _ h))
 
   pub base-added : (base b e : ℕ) {x y : ℕ} → base < t → x ≡ addSized base b size → y ≡ addSized base e size → bounded size x y ≡ offsets size base b e
   base-added base b e h p q = rw (p, q, ← f) (simp (lt-leb _ _ h))
 
 -- a lookup that a call answered as r
-module _ {r : AddressAnswer} {d : Result ℕ} (f : ℕ → Turn) (p : toldAddress r ≡ d) where
-  pub looked-up : {a : ℕ} → r ≡ address.Address a → looked d f ≡ f a
+module _ {r : AddressAnswer} {d : Result ℕ} (f : ℕ → Result Turn) (p : toldAddress r ≡ d) where
+  pub looked-up : {a : ℕ} → r ≡ address.Address a → andThen d f ≡ f a
   looked-up q = rw (← p, q)
 
-  pub lookup-refused : {e : Error} {q : Converted} → r ≡ address.Refused e → q ≡ passedOf r → told q ≡ looked d f
+  pub lookup-refused : {e : Error} {q : Converted} → r ≡ address.Refused e → q ≡ passedOf r → told q ≡ andThen d f
   lookup-refused h e = rw (e, ← p, h)
 
 -- opening
@@ -58,11 +58,11 @@ module _ (p : Encoding) (s : List ℕ) (offset base : ℕ) where
   unfolding opened
   opened-list h l = simp (h, le-leb _ _ l)
 
-  pub opened-past : isSize (p .«address_size») ≡ true → length s < offset → opened p s offset base ≡ refusing UnexpectedEof
+  pub opened-past : isSize (p .«address_size») ≡ true → length s < offset → opened p s offset base ≡ refusal UnexpectedEof
   unfolding opened
   opened-past h l = simp (h, lt-leb _ _ l)
 
-  pub opened-other : isSize (p .«address_size») ≡ false → opened p s offset base ≡ refusing (UnsupportedAddressSize (p .«address_size»))
+  pub opened-other : isSize (p .«address_size») ≡ false → opened p s offset base ≡ refusal (UnsupportedAddressSize (p .«address_size»))
   unfolding opened
   opened-other h = simp h
 
@@ -77,7 +77,7 @@ module _ (p : Encoding) (older newer : List ℕ) where
 
 -- a raw call
 module _ (l : Listing) (size len : ℕ) (w : Walk) where
-  pub raw-other : isSize size ≡ false → nextRaw l size len w ≡ stopped (UnsupportedAddressSize size) (walkAt len (w .«base_address»))
+  pub raw-other : isSize size ≡ false → nextRaw l size len w ≡ hands (refusal (UnsupportedAddressSize size)) (walkAt len (w .«base_address»))
   unfolding nextRaw
   raw-other h = simp h
 
@@ -91,19 +91,19 @@ module _ (l : Listing) (size len : ℕ) (w : Walk) where
     raw-is k r q = simp (h, lt-leb _ _ k, q)
 
     module _ (k : w .at < len) where
-      pub raw-entry : {e : l .Entry} {c : ℕ} → found e c ≡ stepOf (l .read (w .at)) → nextRaw l size len w ≡ yields e (walkAt c (w .«base_address»))
+      pub raw-entry : {e : l .Entry} {c : ℕ} → gives (found e c) ≡ stepOf (l .read (w .at)) → nextRaw l size len w ≡ hands (gives e) (walkAt c (w .«base_address»))
       raw-entry q = raw-is k _ (step-found (l .read (w .at)) q)
 
-      pub raw-end : ended ≡ stepOf (l .read (w .at)) → nextRaw l size len w ≡ ends (walkAt len (w .«base_address»))
+      pub raw-end : gives ended ≡ stepOf (l .read (w .at)) → nextRaw l size len w ≡ ends (walkAt len (w .«base_address»))
       raw-end q = raw-is k _ (step-ended (l .read (w .at)) q .1)
 
-      pub raw-failed : {n : ℕ} {vs : List ℕ} → failed n vs ≡ stepOf (l .read (w .at)) → nextRaw l size len w ≡ stops n vs (walkAt len (w .«base_address»))
+      pub raw-failed : {n : ℕ} {vs : List ℕ} → refused n vs ≡ stepOf (l .read (w .at)) → nextRaw l size len w ≡ hands (refused n vs) (walkAt len (w .«base_address»))
       raw-failed q = raw-is k _ (step-failed (l .read (w .at)) q)
 
 -- a conversion under a walk, by the answer of the conversion
 module _ {D : Type 0} (table : DebugAddrIndex → Result ℕ) (size : ℕ) (w : Walk) (d : D) (b : RawRngListEntry) where
-  pub converted-other : isSize size ≡ false → converted table size w d b ≡ refuses (number (UnsupportedAddressSize size)) (values (UnsupportedAddressSize size)) w
+  pub converted-other : isSize size ≡ false → converted table size w d b ≡ comes (refusal (UnsupportedAddressSize size)) w
   converted-other h = simp h
 
-  pub converted-is : isSize size ≡ true → {t : Turn} → t ≡ convert table size (w .«base_address») b → converted table size w d b ≡ outcome w d t
+  pub converted-is : isSize size ≡ true → {t : Result Turn} → t ≡ convert table size (w .«base_address») b → converted table size w d b ≡ outcome w d t
   converted-is h q = simp (h, ← q)

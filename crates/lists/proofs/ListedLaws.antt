@@ -3,30 +3,30 @@ use mathlib.Core.Bool.{Bool, true, false}
 use mathlib.Core.List.{List}
 use mathlib.Core.Path.{_≡_, refl}
 use Prim.Native.Nat.{ℕ}
-use Rattle.bytes.specs.Read.{Result, pick}
+use Rattle.bytes.specs.Read.{Result, gives, refused, pick}
 use Rattle.bytes.specs.Reader.{isSize}
 use Rattle.bytes.specs.declared.common.DebugAddrIndex.{DebugAddrIndex}
 use Rattle.bytes.specs.declared.common.Encoding.{Encoding}
 use Rattle.bytes.specs.declared.endianity.RunTimeEndian.{RunTimeEndian}
-use Rattle.tables.specs.Next.{Next, yields, ends, stops}
+use Rattle.tables.specs.Next.{Next, ends, hands}
 use Rattle.entries.specs.Listed.{entryIn}
 use Rattle.entries.specs.declared.Expression.{Expression}
 use Rattle.entries.specs.declared.RawRngListEntry.{RawRngListEntry}
 use Rattle.entries.specs.declared.RawLocListEntry.{RawLocListEntry}
-use Rattle.lists.specs.Convert.{Turn, range, rebase, skip, missing, convert, bounds, expressionOf}
+use Rattle.lists.specs.Convert.{Turn, range, rebase, skip, convert, bounds, expressionOf}
 use Rattle.lists.specs.Walk.{Listing, ranges, Item, item, Outcome, outcome, converted, convertRaw, boundsIn, carriedIn, dataIn, nextIn, nextRawIn, outcomeIn}
 use Rattle.lists.specs.declared.Walk.{Walk}
 
 -- an answer for a location is the code's own
 pub next-same : (q : Next (Item Expression) Walk) → nextIn true q ≡ q
-next-same (yields (item b e x) w) = refl
+next-same (hands (gives (item b e x)) w) = refl
 next-same (ends w) = refl
-next-same (stops n vs w) = refl
+next-same (hands (refused n vs) w) = refl
 
 pub raw-same : (q : Next RawLocListEntry Walk) → nextRawIn true q ≡ q
-raw-same (yields e w) = refl
+raw-same (hands (gives e) w) = refl
 raw-same (ends w) = refl
-raw-same (stops n vs w) = refl
+raw-same (hands (refused n vs) w) = refl
 
 -- the code's entry has its list's bounds, and carries what its list's does
 pub bounds-in : (l : Bool) (e : RawLocListEntry) → boundsIn l (entryIn l e) ≡ bounds e
@@ -44,11 +44,11 @@ module _ (table : DebugAddrIndex → Result ℕ) (size : ℕ) (w : Walk) where
   unfolding convertRaw
   converted-raw l e f g = rw (f, g)
 
-  outcome-range : (d : Expression) (t : Turn) → outcomeIn false (outcome w d t) ≡ outcome w tt t
-  outcome-range d (range b e) = refl
-  outcome-range d (rebase b) = refl
-  outcome-range d skip = refl
-  outcome-range d (missing n vs) = refl
+  outcome-range : (d : Expression) (t : Result Turn) → outcomeIn false (outcome w d t) ≡ outcome w tt t
+  outcome-range d (gives (range b e)) = refl
+  outcome-range d (gives (rebase b)) = refl
+  outcome-range d (gives skip) = refl
+  outcome-range d (refused n vs) = refl
 
   picked : (t : Bool) (x y : Outcome Expression) {u v : Outcome Unit} → outcomeIn false x ≡ u → outcomeIn false y ≡ v → outcomeIn false (pick t x y) ≡ pick t u v
   picked true x y f g = f

@@ -1,19 +1,31 @@
--- A list that opens has an address size that is read. Assumes nothing.
+-- A list that opens has an address size that is read; and what follows an opening, by its answer. Assumes nothing.
 use mathlib.Core.Path.{_≡_, refl}
 use mathlib.Core.Bool.{Bool, true, false}
 use mathlib.Core.List.{List}
 use Prim.Native.Nat.{ℕ}
 use native.Mathlib.Omega.{arith}
-use Rattle.bytes.specs.Read.{Result, gives, refuses, pick}
+use Rattle.bytes.specs.Error.{refusal}
+use Rattle.bytes.specs.Read.{Result, gives, refused, andThen, pick}
 use Rattle.bytes.specs.Reader.{isSize}
 use Rattle.bytes.specs.declared.common.Encoding.{Encoding}
-use Rattle.lists.specs.Open.{opened}
+use Rattle.bytes.specs.declared.error.Error.{Error}
+use Rattle.lists.specs.Open.{toldOpened, opened}
 use Rattle.lists.specs.declared.Walk.{Walk}
+use Rattle.lists.specs.declared.Opened.{Opened}
+use Rattle.lists.specs.declared.Opened.the-variants as answer
+
+-- an opening taken apart: its walk goes on, or its refusal is the answer
+module _ {B : Type 0} {r : Opened} {d : Result Walk} (f : Walk → Result B) (p : toldOpened r ≡ d) where
+  pub list-then : {w : Walk} → r ≡ answer.List w → andThen d f ≡ f w
+  list-then q = rw (← p, q)
+
+  pub no-list-then : {e : Error} → r ≡ answer.Refused e → andThen d f ≡ refusal e
+  no-list-then q = rw (← p, q)
 
 pub opened-size : (p : Encoding) (s : List ℕ) (offset base : ℕ) {w : Walk} → opened p s offset base ≡ gives w → isSize (p .«address_size») ≡ true
 unfolding opened
 opened-size p s offset base {w} q = chosen (isSize (p .«address_size»)) _ _ _ q
   where
-    chosen : (t : Bool) (x : Result Walk) (n : ℕ) (vs : List ℕ) → pick t x (refuses n vs) ≡ gives w → t ≡ true
+    chosen : (t : Bool) (x : Result Walk) (n : ℕ) (vs : List ℕ) → pick t x (refused n vs) ≡ gives w → t ≡ true
     chosen true x n vs f = refl
     chosen false x n vs f = let z : _≡_ {A = ℕ} 0 1 = cc in absurd (omega arith)

@@ -4,7 +4,7 @@ use mathlib.Core.Bool.{Bool, true, false}
 use mathlib.Core.List.{List}
 use native.Mathlib.Omega.{arith}
 use lib.ListN.{length}
-use Rattle.bytes.specs.Read.{Read, got, refused}
+use Rattle.bytes.specs.Read.{gives, refused, got, Read}
 use Rattle.bytes.specs.declared.common.Encoding.{Encoding}
 use Rattle.bytes.specs.declared.endianity.RunTimeEndian.{RunTimeEndian}
 use Rattle.bytes.proofs.Took.{Took}
@@ -14,7 +14,7 @@ use Rattle.entries.proofs.EntryTook.{range-took, location-took}
 use Rattle.lists.proofs.WalkLaws.{Moved}
 
 pub moved-of : {A : Type 0} (s : List ℕ) (at : ℕ) (r : Read A) → Took (at + 1) at s s r r → Moved at (length s) r
-moved-of s at (got v c) h = (omega arith, h .1)
+moved-of s at (gives (got v c)) h = (omega arith, h .1)
 moved-of s at (refused n vs) h = tt
 
 pub range-past : (p : Encoding) (endian : RunTimeEndian) (s : List ℕ) (at : ℕ) → at < length s → Moved at (length s) (rawRange p endian s at)

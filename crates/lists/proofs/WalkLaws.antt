@@ -6,37 +6,38 @@ use Prim.Native.Nat.{ℕ, zero, suc, _+_, _≤_, _<_}
 use native.Mathlib.Omega.{arith}
 use lib.Dec.{leb}
 use borrow.Author.Tests.{le-leb, lt-leb, leb-false}
-use Rattle.bytes.specs.Read.{Read, got, refused, Result, pick}
+use Rattle.bytes.specs.Error.{refusal}
+use Rattle.bytes.specs.Read.{Result, gives, refused, got, Read, pick}
 use Rattle.bytes.specs.Reader.{isSize}
 use Rattle.bytes.specs.declared.common.DebugAddrIndex.{DebugAddrIndex}
 use Rattle.bytes.specs.declared.error.Error.the-variants.{UnsupportedAddressSize}
-use Rattle.tables.specs.Next.{stopped}
+use Rattle.tables.specs.Next.{hands}
 use Rattle.entries.specs.Forms.{Raw, stop, entry}
 use Rattle.lists.specs.Open.{walkAt}
-use Rattle.lists.specs.Convert.{Turn, range, rebase, skip, missing, convert}
-use Rattle.lists.specs.Walk.{Listing, item, Trace, over, gave, lost, onTurn, onRead, traceFrom, trace, first, next}
+use Rattle.lists.specs.Convert.{Turn, range, rebase, skip, convert}
+use Rattle.lists.specs.Walk.{Listing, item, Trace, over, onTurn, onRead, traceFrom, trace, first, next, handed}
 use Rattle.lists.specs.declared.Walk.{Walk}
 
 -- what was read ends past its place and in the section
 abbrev pub Moved : {A : Type 0} → ℕ → ℕ → Read A → Type 0
-Moved at len (got v c) = (at < c) × (c ≤ len)
+Moved at len (gives (got v c)) = (at < c) × (c ≤ len)
 Moved at len (refused n vs) = Unit
 
 pub pick-else : {A : Type 0} (t : Bool) (x : A) {y z : A} → (t ≡ false → y ≡ z) → pick t x y ≡ pick t x z
 pick-else true x h = refl
 pick-else false x h = h refl
 
-pub turn-cong : {D : Type 0} (t : Turn) (d : D) (c base : ℕ) (f g : ℕ → ℕ → Trace D) → ((b : ℕ) → f c b ≡ g c b) → onTurn t d c base f ≡ onTurn t d c base g
-turn-cong (range b e) d c base f g h = ap (gave (item b e d) (walkAt c base)) (h base)
-turn-cong (rebase b) d c base f g h = h b
-turn-cong skip d c base f g h = h base
-turn-cong (missing n vs) d c base f g h = ap (lost n vs (walkAt c base)) (h base)
+pub turn-cong : {D : Type 0} (t : Result Turn) (d : D) (c base : ℕ) (f g : ℕ → ℕ → Trace D) → ((b : ℕ) → f c b ≡ g c b) → onTurn t d c base f ≡ onTurn t d c base g
+turn-cong (gives (range b e)) d c base f g h = ap (handed (gives (item b e d)) (walkAt c base)) (h base)
+turn-cong (gives (rebase b)) d c base f g h = h b
+turn-cong (gives skip) d c base f g h = h base
+turn-cong (refused n vs) d c base f g h = ap (handed (refused n vs) (walkAt c base)) (h base)
 
 module _ (l : Listing) (table : DebugAddrIndex → Result ℕ) (size len : ℕ) (past : (at : ℕ) → at < len → Moved at len (l .read at)) where
   read-cong : (at base : ℕ) (r : Read (Raw (l .Entry))) (f g : ℕ → ℕ → Trace (l .Carried)) → Moved at len r → ((c b : ℕ) → at < c → f c b ≡ g c b)
       → onRead l table size len base r f ≡ onRead l table size len base r g
-  read-cong at base (got (entry e) c) f g p h = turn-cong (convert table size base (l .boundsOf e)) (l .carried e) c base f g (λ b. h c b (p .0))
-  read-cong at base (got stop c) f g p h = refl
+  read-cong at base (gives (got (entry e) c)) f g p h = turn-cong (convert table size base (l .boundsOf e)) (l .carried e) c base f g (λ b. h c b (p .0))
+  read-cong at base (gives (got stop c)) f g p h = refl
   read-cong at base (refused n vs) f g p h = refl
 
   -- more fuel changes nothing, once there is as much as there are bytes left
@@ -60,24 +61,24 @@ module _ (l : Listing) (table : DebugAddrIndex → Result ℕ) (size len : ℕ) 
     trace-step h = enough len (suc len) at base (omega arith) (omega arith) ∙ simp (lt-leb _ _ h)
 
     module _ (h : at < len) where
-      pub met-end : {c : ℕ} → l .read at ≡ got stop c → trace l table size len (walkAt at base) ≡ over (walkAt len base)
+      pub met-end : {c : ℕ} → l .read at ≡ gives (got stop c) → trace l table size len (walkAt at base) ≡ over (walkAt len base)
       met-end q = trace-step h ∙ ap (λ (r : Read (Raw (l .Entry))). onRead l table size len base r (λ c b. trace l table size len (walkAt c b))) q
 
-      pub met-refusal : {n : ℕ} {vs : List ℕ} → l .read at ≡ refused n vs → trace l table size len (walkAt at base) ≡ lost n vs (walkAt len base) (over (walkAt len base))
+      pub met-refusal : {n : ℕ} {vs : List ℕ} → l .read at ≡ refused n vs → trace l table size len (walkAt at base) ≡ handed (refused n vs) (walkAt len base) (over (walkAt len base))
       met-refusal q = trace-step h ∙ ap (λ (r : Read (Raw (l .Entry))). onRead l table size len base r (λ c b. trace l table size len (walkAt c b))) q
 
-      pub met-entry : {e : l .Entry} {c : ℕ} {t : Turn} → l .read at ≡ got (entry e) c → t ≡ convert table size base (l .boundsOf e)
+      pub met-entry : {e : l .Entry} {c : ℕ} {t : Result Turn} → l .read at ≡ gives (got (entry e) c) → t ≡ convert table size base (l .boundsOf e)
           → trace l table size len (walkAt at base) ≡ onTurn t (l .carried e) c base (λ c b. trace l table size len (walkAt c b))
       met-entry {e} {c} q p =
           trace-step h
           ∙ ap (λ (r : Read (Raw (l .Entry))). onRead l table size len base r (λ c b. trace l table size len (walkAt c b))) q
-          ∙ ap (λ (x : Turn). onTurn x (l .carried e) c base (λ c b. trace l table size len (walkAt c b))) (sym p)
+          ∙ ap (λ (x : Result Turn). onTurn x (l .carried e) c base (λ c b. trace l table size len (walkAt c b))) (sym p)
 
 module _ (l : Listing) (table : DebugAddrIndex → Result ℕ) (size len : ℕ) (w : Walk) where
   pub next-first : isSize size ≡ true → next l table size len w ≡ first (trace l table size len w)
   unfolding next
   next-first h = simp h
 
-  pub next-other : isSize size ≡ false → next l table size len w ≡ stopped (UnsupportedAddressSize size) (walkAt len (w .«base_address»))
+  pub next-other : isSize size ≡ false → next l table size len w ≡ hands (refusal (UnsupportedAddressSize size)) (walkAt len (w .«base_address»))
   unfolding next
   next-other h = simp h

@@ -2,8 +2,8 @@
 use Prim.Native.Nat.{ℕ}
 use mathlib.Core.List.{List}
 use lib.Dec.{leb}
-use Rattle.bytes.specs.Read.{Result, gives, refuses, pick}
-use Rattle.bytes.specs.Error.{number, values}
+use Rattle.bytes.specs.Read.{Result, gives, andThen, pick}
+use Rattle.bytes.specs.Error.{refusal}
 use Rattle.bytes.specs.Address.{addSized, minTombstone}
 use Rattle.bytes.specs.declared.common.DebugAddrBase.{DebugAddrBase}
 use Rattle.bytes.specs.declared.common.DebugAddrIndex.{DebugAddrIndex}
@@ -30,32 +30,26 @@ use Rattle.entries.specs.declared.RawLocListEntry.the-variants as loc
 use Rattle.lists.specs.declared.convert.Converted.{Converted}
 use Rattle.lists.specs.declared.convert.Converted.the-variants as code
 
--- a range, another base address, nothing, or a refused lookup
+-- a range, another base address, or nothing
 pub data Turn : Type 0 where
   range : ℕ → ℕ → Turn
   rebase : ℕ → Turn
   skip : Turn
-  missing : ℕ → List ℕ → Turn
 
-abbrev pub told : Converted → Turn
-told (code.Range r) = range (r .begin) (r .end)
-told (code.Base a) = rebase a
-told code.Skip = skip
-told (code.Refused e) = missing (number e) (values e)
+abbrev pub told : Converted → Result Turn
+told (code.Range r) = gives (range (r .begin) (r .end))
+told (code.Base a) = gives (rebase a)
+told code.Skip = gives skip
+told (code.Refused e) = refusal e
 
 -- a range is skipped when its begin is at or above the tombstone bound, or not below its end
-abbrev pub bounded : ℕ → ℕ → ℕ → Turn
-bounded size b e = pick (leb (minTombstone size) b) skip (pick (leb e b) skip (range b e))
+abbrev pub bounded : ℕ → ℕ → ℕ → Result Turn
+bounded size b e = pick (leb (minTombstone size) b) (gives skip) (pick (leb e b) (gives skip) (gives (range b e)))
 
 -- offsets from the base address; skipped when the base itself is at or above the bound, whatever the sums are
-abbrev pub offsets : ℕ → ℕ → ℕ → ℕ → Turn
+abbrev pub offsets : ℕ → ℕ → ℕ → ℕ → Result Turn
 offsets size base b e =
-    pick (leb (minTombstone size) base) skip (bounded size (addSized base b size) (addSized base e size))
-
--- what follows an address that was looked up; a refusal is the answer
-abbrev pub looked : Result ℕ → (ℕ → Turn) → Turn
-looked (gives a) f = f a
-looked (refuses n vs) f = missing n vs
+    pick (leb (minTombstone size) base) (gives skip) (bounded size (addSized base b size) (addSized base e size))
 
 -- a refusal handed on by the code
 abbrev pub passedOf : AddressAnswer → Converted
@@ -67,12 +61,12 @@ abbrev pub tableAt : RunTimeEndian → Encoding → DebugAddrBase → List ℕ �
 tableAt endian encoding tableBase table i = addressAt endian (encoding .«address_size») tableBase i table
 
 -- by the address table's answers, the size and the base address; a begin is looked up before its end
-unfoldable pub convert : (DebugAddrIndex → Result ℕ) → ℕ → ℕ → RawRngListEntry → Turn
+unfoldable pub convert : (DebugAddrIndex → Result ℕ) → ℕ → ℕ → RawRngListEntry → Result Turn
 convert at size base (AddressOrOffsetPair b e) = offsets size base b e
-convert at size base (BaseAddress a) = rebase a
-convert at size base (BaseAddressx i) = looked (at i) rebase
-convert at size base (StartxEndx i j) = looked (at i) (λ b. looked (at j) (λ e. bounded size b e))
-convert at size base (StartxLength i n) = looked (at i) (λ b. bounded size b (addSized b n size))
+convert at size base (BaseAddress a) = gives (rebase a)
+convert at size base (BaseAddressx i) = andThen (at i) (λ a. gives (rebase a))
+convert at size base (StartxEndx i j) = andThen (at i) (λ b. andThen (at j) (λ e. bounded size b e))
+convert at size base (StartxLength i n) = andThen (at i) (λ b. bounded size b (addSized b n size))
 convert at size base (OffsetPair b e) = offsets size base b e
 convert at size base (StartEnd b e) = bounded size b e
 convert at size base (StartLength b n) = bounded size b (addSized b n size)

@@ -4,7 +4,7 @@ use mathlib.Core.List.{List}
 use lib.Dec.{leb}
 use lib.ListN.{length}
 use Rattle.bytes.specs.Read.{Result, gives, pick}
-use Rattle.bytes.specs.Error.{refusing}
+use Rattle.bytes.specs.Error.{refusal}
 use Rattle.bytes.specs.Reader.{isSize}
 use Rattle.bytes.specs.declared.common.Encoding.{Encoding}
 use Rattle.bytes.specs.declared.error.Error.the-variants.{UnexpectedEof, UnsupportedAddressSize}
@@ -18,12 +18,12 @@ walkAt at base = record { at = at; «base_address» = base }
 -- an offset at the section's end opens an empty list; the address size is looked at first
 unfoldable pub opened : Encoding → List ℕ → ℕ → ℕ → Result Walk
 opened encoding s offset base =
-    pick (isSize (encoding .«address_size»)) (pick (leb offset (length s)) (gives (walkAt offset base)) (refusing UnexpectedEof))
-    (refusing (UnsupportedAddressSize (encoding .«address_size»)))
+    pick (isSize (encoding .«address_size»)) (pick (leb offset (length s)) (gives (walkAt offset base)) (refusal UnexpectedEof))
+    (refusal (UnsupportedAddressSize (encoding .«address_size»)))
 
 abbrev pub toldOpened : Opened → Result Walk
 toldOpened (answer.List w) = gives w
-toldOpened (answer.Refused e) = refusing e
+toldOpened (answer.Refused e) = refusal e
 
 -- lists of version 5 and above stand in a section of their own (DWARF 5, 7.28 and 7.29)
 unfoldable pub sectionFor : Encoding → List ℕ → List ℕ → List ℕ

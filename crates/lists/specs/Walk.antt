@@ -4,22 +4,22 @@ use mathlib.Core.List.{List}
 use mathlib.Core.Bool.{Bool, true, false}
 use lib.ListN.{length}
 use lib.Dec.{leb}
-use Rattle.bytes.specs.Read.{Read, got, refused, Result, pick}
-use Rattle.bytes.specs.Error.{number, values}
+use Rattle.bytes.specs.Read.{Result, gives, refused, got, Read, pick}
+use Rattle.bytes.specs.Error.{refusal}
 use Rattle.bytes.specs.Reader.{isSize}
 use Rattle.bytes.specs.declared.common.DebugAddrBase.{DebugAddrBase}
 use Rattle.bytes.specs.declared.common.DebugAddrIndex.{DebugAddrIndex}
 use Rattle.bytes.specs.declared.common.Encoding.{Encoding}
 use Rattle.bytes.specs.declared.endianity.RunTimeEndian.{RunTimeEndian}
 use Rattle.bytes.specs.declared.error.Error.the-variants.{UnsupportedAddressSize}
-use Rattle.tables.specs.Next.{Next, yields, ends, stops, stopped}
+use Rattle.tables.specs.Next.{Next, ends, hands}
 use Rattle.entries.specs.Forms.{Raw, stop, entry}
 use Rattle.entries.specs.Listed.{EntryIn, entryIn, readIn}
 use Rattle.entries.specs.declared.Expression.{Expression}
 use Rattle.entries.specs.declared.RawRngListEntry.{RawRngListEntry}
 use Rattle.entries.specs.declared.RawLocListEntry.{RawLocListEntry}
 use Rattle.lists.specs.Open.{walkAt}
-use Rattle.lists.specs.Convert.{Turn, range, rebase, skip, missing, convert, tableAt, bounds, expressionOf}
+use Rattle.lists.specs.Convert.{Turn, range, rebase, skip, convert, tableAt, bounds, expressionOf}
 use Rattle.lists.specs.declared.Walk.{Walk}
 use Rattle.lists.specs.declared.rnglists.RawRangeAnswer.{RawRangeAnswer}
 use Rattle.lists.specs.declared.rnglists.RawRangeAnswer.the-variants as rawRng
@@ -72,21 +72,20 @@ pub data Item (D : Type 0) : Type 0 where
 -- what a list does: it hands out an item or a refusal, with the walk then, and goes on; or it is over
 pub data Trace (D : Type 0) : Type 0 where
   over : Walk → Trace D
-  gave : Item D → Walk → Trace D → Trace D
-  lost : ℕ → List ℕ → Walk → Trace D → Trace D
+  handed : Result (Item D) → Walk → Trace D → Trace D
 
 -- what an entry that ends at c comes to; a failed lookup leaves base and place to go on from
-abbrev pub onTurn : {D : Type 0} → Turn → D → ℕ → ℕ → (ℕ → ℕ → Trace D) → Trace D
-onTurn (range b e) d c base go = gave (item b e d) (walkAt c base) (go c base)
-onTurn (rebase b) d c base go = go c b
-onTurn skip d c base go = go c base
-onTurn (missing n vs) d c base go = lost n vs (walkAt c base) (go c base)
+abbrev pub onTurn : {D : Type 0} → Result Turn → D → ℕ → ℕ → (ℕ → ℕ → Trace D) → Trace D
+onTurn (gives (range b e)) d c base go = handed (gives (item b e d)) (walkAt c base) (go c base)
+onTurn (gives (rebase b)) d c base go = go c b
+onTurn (gives skip) d c base go = go c base
+onTurn (refused n vs) d c base go = handed (refused n vs) (walkAt c base) (go c base)
 
 -- a raw refusal and the end mark empty the walk: its place is then the section's length
 abbrev pub onRead : (l : Listing) → (DebugAddrIndex → Result ℕ) → ℕ → ℕ → ℕ → Read (Raw (l .Entry)) → (ℕ → ℕ → Trace (l .Carried)) → Trace (l .Carried)
-onRead l table size len base (got (entry e) c) go = onTurn (convert table size base (l .boundsOf e)) (l .carried e) c base go
-onRead l table size len base (got stop c) go = over (walkAt len base)
-onRead l table size len base (refused n vs) go = lost n vs (walkAt len base) (over (walkAt len base))
+onRead l table size len base (gives (got (entry e) c)) go = onTurn (convert table size base (l .boundsOf e)) (l .carried e) c base go
+onRead l table size len base (gives (got stop c)) go = over (walkAt len base)
+onRead l table size len base (refused n vs) go = handed (refused n vs) (walkAt len base) (over (walkAt len base))
 
 -- from a place on, at most n entries: each takes a byte at least, so as many as there are bytes are enough
 unfoldable pub traceFrom : (l : Listing) → (DebugAddrIndex → Result ℕ) → ℕ → ℕ → ℕ → ℕ → ℕ → Trace (l .Carried)
@@ -100,43 +99,40 @@ trace l table size len w = traceFrom l table size len len (w .at) (w .«base_add
 -- a call hands out what the list does first
 abbrev pub first : {D : Type 0} → Trace D → Next (Item D) Walk
 first (over w) = ends w
-first (gave i w t) = yields i w
-first (lost n vs w t) = stops n vs w
+first (handed r w t) = hands r w
 
 -- other sizes are refused before all else, and the walk is emptied
 unfoldable pub next : (l : Listing) → (DebugAddrIndex → Result ℕ) → ℕ → ℕ → Walk → Next (Item (l .Carried)) Walk
 next l table size len w =
-    pick (isSize size) (first (trace l table size len w)) (stopped (UnsupportedAddressSize size) (walkAt len (w .«base_address»)))
+    pick (isSize size) (first (trace l table size len w)) (hands (refusal (UnsupportedAddressSize size)) (walkAt len (w .«base_address»)))
 
 -- the raw entry of a call
 abbrev pub onRaw : {E : Type 0} → ℕ → ℕ → Read (Raw E) → Next E Walk
-onRaw len base (got (entry e) c) = yields e (walkAt c base)
-onRaw len base (got stop c) = ends (walkAt len base)
-onRaw len base (refused n vs) = stops n vs (walkAt len base)
+onRaw len base (gives (got (entry e) c)) = hands (gives e) (walkAt c base)
+onRaw len base (gives (got stop c)) = ends (walkAt len base)
+onRaw len base (refused n vs) = hands (refused n vs) (walkAt len base)
 
 unfoldable pub nextRaw : (l : Listing) → ℕ → ℕ → Walk → Next (l .Entry) Walk
 nextRaw l size len w =
     pick (isSize size)
     (pick (leb len (w .at)) (ends w) (onRaw len (w .«base_address») (l .read (w .at))))
-    (stopped (UnsupportedAddressSize size) (walkAt len (w .«base_address»)))
+    (hands (refusal (UnsupportedAddressSize size)) (walkAt len (w .«base_address»)))
 
--- what a raw entry comes to under a walk: an item, nothing, or a refusal; and the walk then
+-- what a raw entry comes to under a walk: an item or a refusal, or nothing; and the walk then
 pub data Outcome (D : Type 0) : Type 0 where
-  gives : Item D → Walk → Outcome D
+  comes : Result (Item D) → Walk → Outcome D
   nothing : Walk → Outcome D
-  refuses : ℕ → List ℕ → Walk → Outcome D
 
-abbrev pub outcome : {D : Type 0} → Walk → D → Turn → Outcome D
-outcome w d (range b e) = gives (item b e d) w
-outcome w d (rebase b) = nothing (walkAt (w .at) b)
-outcome w d skip = nothing w
-outcome w d (missing n vs) = refuses n vs w
+abbrev pub outcome : {D : Type 0} → Walk → D → Result Turn → Outcome D
+outcome w d (gives (range b e)) = comes (gives (item b e d)) w
+outcome w d (gives (rebase b)) = nothing (walkAt (w .at) b)
+outcome w d (gives skip) = nothing w
+outcome w d (refused n vs) = comes (refused n vs) w
 
 -- bounds, with what they carry
 abbrev pub converted : {D : Type 0} → (DebugAddrIndex → Result ℕ) → ℕ → Walk → D → RawRngListEntry → Outcome D
 converted table size w d b =
-    pick (isSize size) (outcome w d (convert table size (w .«base_address») b))
-    (refuses (number (UnsupportedAddressSize size)) (values (UnsupportedAddressSize size)) w)
+    pick (isSize size) (outcome w d (convert table size (w .«base_address») b)) (comes (refusal (UnsupportedAddressSize size)) w)
 
 unfoldable pub convertRaw : (l : Listing) → (DebugAddrIndex → Result ℕ) → ℕ → Walk → l .Entry → Outcome (l .Carried)
 convertRaw l table size w e = converted table size w (l .carried e) (l .boundsOf e)
@@ -170,34 +166,34 @@ convertedLocation encoding endian table tableBase w e = convertRaw (locations fa
 
 -- the code's answers told so
 abbrev pub toldRawRange : RawRangeAnswer → Next RawRngListEntry Walk
-toldRawRange (rawRng.Entry e w) = yields e w
+toldRawRange (rawRng.Entry e w) = hands (gives e) w
 toldRawRange (rawRng.End w) = ends w
-toldRawRange (rawRng.Refused e w) = stopped e w
+toldRawRange (rawRng.Refused e w) = hands (refusal e) w
 
 abbrev pub toldConvertedRange : RangeConverted → Outcome Unit
-toldConvertedRange (convertedRng.Range r w) = gives (item (r .begin) (r .end) tt) w
+toldConvertedRange (convertedRng.Range r w) = comes (gives (item (r .begin) (r .end) tt)) w
 toldConvertedRange (convertedRng.Nothing w) = nothing w
-toldConvertedRange (convertedRng.Refused e w) = refuses (number e) (values e) w
+toldConvertedRange (convertedRng.Refused e w) = comes (refusal e) w
 
 abbrev pub toldNextRange : RangeAnswer → Next (Item Unit) Walk
-toldNextRange (rng.Range r w) = yields (item (r .begin) (r .end) tt) w
+toldNextRange (rng.Range r w) = hands (gives (item (r .begin) (r .end) tt)) w
 toldNextRange (rng.End w) = ends w
-toldNextRange (rng.Refused e w) = stopped e w
+toldNextRange (rng.Refused e w) = hands (refusal e) w
 
 abbrev pub toldRawLocation : RawLocationAnswer → Next RawLocListEntry Walk
-toldRawLocation (rawLoc.Entry e w) = yields e w
+toldRawLocation (rawLoc.Entry e w) = hands (gives e) w
 toldRawLocation (rawLoc.End w) = ends w
-toldRawLocation (rawLoc.Refused e w) = stopped e w
+toldRawLocation (rawLoc.Refused e w) = hands (refusal e) w
 
 abbrev pub toldConvertedLocation : LocationConverted → Outcome Expression
-toldConvertedLocation (convertedLoc.Location x w) = gives (item (x .range .begin) (x .range .end) (x .«data»)) w
+toldConvertedLocation (convertedLoc.Location x w) = comes (gives (item (x .range .begin) (x .range .end) (x .«data»))) w
 toldConvertedLocation (convertedLoc.Nothing w) = nothing w
-toldConvertedLocation (convertedLoc.Refused e w) = refuses (number e) (values e) w
+toldConvertedLocation (convertedLoc.Refused e w) = comes (refusal e) w
 
 abbrev pub toldNextLocation : LocationAnswer → Next (Item Expression) Walk
-toldNextLocation (loc.Location x w) = yields (item (x .range .begin) (x .range .end) (x .«data»)) w
+toldNextLocation (loc.Location x w) = hands (gives (item (x .range .begin) (x .range .end) (x .«data»))) w
 toldNextLocation (loc.End w) = ends w
-toldNextLocation (loc.Refused e w) = stopped e w
+toldNextLocation (loc.Refused e w) = hands (refusal e) w
 
 -- an answer of the code for both lists, told as its list's
 abbrev pub dataIn : (l : Bool) → Expression → CarriedIn l
@@ -208,16 +204,16 @@ abbrev pub itemIn : (l : Bool) → Item Expression → Item (CarriedIn l)
 itemIn l (item b e x) = item b e (dataIn l x)
 
 abbrev pub nextIn : (l : Bool) → Next (Item Expression) Walk → Next (Item (CarriedIn l)) Walk
-nextIn l (yields i w) = yields (itemIn l i) w
+nextIn l (hands (gives i) w) = hands (gives (itemIn l i)) w
+nextIn l (hands (refused n vs) w) = hands (refused n vs) w
 nextIn l (ends w) = ends w
-nextIn l (stops n vs w) = stops n vs w
 
 abbrev pub nextRawIn : (l : Bool) → Next RawLocListEntry Walk → Next (EntryIn l) Walk
-nextRawIn l (yields e w) = yields (entryIn l e) w
+nextRawIn l (hands (gives e) w) = hands (gives (entryIn l e)) w
+nextRawIn l (hands (refused n vs) w) = hands (refused n vs) w
 nextRawIn l (ends w) = ends w
-nextRawIn l (stops n vs w) = stops n vs w
 
 abbrev pub outcomeIn : (l : Bool) → Outcome Expression → Outcome (CarriedIn l)
-outcomeIn l (gives i w) = gives (itemIn l i) w
+outcomeIn l (comes (gives i) w) = comes (gives (itemIn l i)) w
+outcomeIn l (comes (refused n vs) w) = comes (refused n vs) w
 outcomeIn l (nothing w) = nothing w
-outcomeIn l (refuses n vs w) = refuses n vs w

@@ -5,29 +5,28 @@ use Prim.Native.Nat.{ℕ, _-_, _*_, _^_, _≤_, _<_}
 use mathlib.Core.Bool.{Bool, true, false}
 use mathlib.Core.List.{List}
 use mathlib.Core.Path.{_≡_}
-use Rattle.bytes.specs.Read.{got, refused, Result}
+use Rattle.bytes.specs.Read.{Result, gives, refused, got}
 use Rattle.bytes.specs.Reader.{isSize}
 use Rattle.bytes.specs.declared.common.DebugAddrIndex.{DebugAddrIndex}
-use Rattle.tables.specs.Next.{Next, yields, ends, stops}
+use Rattle.tables.specs.Next.{Next, ends, hands}
 use Rattle.entries.specs.Forms.{entry}
 use Rattle.entries.specs.declared.RawLocListEntry.{RawLocListEntry}
 use Rattle.entries.specs.declared.RawLocListEntry.the-variants as loc
 use Rattle.lists.specs.Open.{walkAt}
-use Rattle.lists.specs.Convert.{missing, convert}
-use Rattle.lists.specs.Walk.{Listing, Item, item, Trace, over, gave, lost, trace, next, nextRaw}
+use Rattle.lists.specs.Convert.{convert}
+use Rattle.lists.specs.Walk.{Listing, Item, item, Trace, over, trace, next, nextRaw, handed}
 use Rattle.lists.specs.declared.Walk.{Walk}
 
 -- a walk handed back does what the list does from there on, and after the end it is over for ever
 abbrev pub Hands : (l : Listing) → (DebugAddrIndex → Result ℕ) → ℕ → ℕ → Trace (l .Carried) → Type 0
 Hands l table size len (over w) = trace l table size len w ≡ over w
-Hands l table size len (gave i w t) = trace l table size len w ≡ t
-Hands l table size len (lost n vs w t) = trace l table size len w ≡ t
+Hands l table size len (handed r w t) = trace l table size len w ≡ t
 
 -- what a raw call leaves: past its place, or emptied
 abbrev pub Progress : {E : Type 0} → ℕ → ℕ → Next E Walk → Type 0
-Progress at len (yields e w) = (at < w .at) × (w .at ≤ len)
+Progress at len (hands (gives e) w) = (at < w .at) × (w .at ≤ len)
 Progress at len (ends w) = w .at ≡ len
-Progress at len (stops n vs w) = w .at ≡ len
+Progress at len (hands (refused n vs) w) = w .at ≡ len
 
 -- what holds of every walk of a list
 pub record EveryWalk (l : Listing) (table : DebugAddrIndex → Result ℕ) (size len : ℕ) : Type 0 where
@@ -35,11 +34,11 @@ pub record EveryWalk (l : Listing) (table : DebugAddrIndex → Result ℕ) (size
   pub hands-out : (w : Walk) → Hands l table size len (trace l table size len w)
   -- a failed lookup loses nothing else: the base stays, and the walk goes on after the entry
   pub lookup-failed : (at base : ℕ) → at < len → {e : l .Entry} {c n : ℕ} {vs : List ℕ}
-      → l .read at ≡ got (entry e) c → missing n vs ≡ convert table size base (l .boundsOf e)
-      → trace l table size len (walkAt at base) ≡ lost n vs (walkAt c base) (trace l table size len (walkAt c base))
+      → l .read at ≡ gives (got (entry e) c) → refused n vs ≡ convert table size base (l .boundsOf e)
+      → trace l table size len (walkAt at base) ≡ handed (refused n vs) (walkAt c base) (trace l table size len (walkAt c base))
   -- a raw refusal empties the walk, and then it is over
   pub raw-refused : (at base : ℕ) → at < len → {n : ℕ} {vs : List ℕ} → l .read at ≡ refused n vs
-      → trace l table size len (walkAt at base) ≡ lost n vs (walkAt len base) (over (walkAt len base))
+      → trace l table size len (walkAt at base) ≡ handed (refused n vs) (walkAt len base) (over (walkAt len base))
   -- each raw call on a place before the section's end reads at least one byte or empties the walk
   pub raw-progress : (w : Walk) → w .at < len → Progress (w .at) len (nextRaw l size len w)
 
@@ -73,25 +72,25 @@ whole l = record { Entry = l .Entry; Carried = l .Entry; read = l .read; boundsO
 -- what is carried, made into something else
 abbrev pub carrying : {D C : Type 0} → (D → C) → Trace D → Trace C
 carrying f (over w) = over w
-carrying f (gave (item b e d) w t) = gave (item b e (f d)) w (carrying f t)
-carrying f (lost n vs w t) = lost n vs w (carrying f t)
+carrying f (handed (gives (item b e d)) w t) = handed (gives (item b e (f d))) w (carrying f t)
+carrying f (handed (refused n vs) w t) = handed (refused n vs) w (carrying f t)
 
 abbrev pub callCarrying : {D C : Type 0} → (D → C) → Next (Item D) Walk → Next (Item C) Walk
-callCarrying f (yields (item b e d) w) = yields (item b e (f d)) w
+callCarrying f (hands (gives (item b e d)) w) = hands (gives (item b e (f d))) w
 callCarrying f (ends w) = ends w
-callCarrying f (stops n vs w) = stops n vs w
+callCarrying f (hands (refused n vs) w) = hands (refused n vs) w
 
 -- of each range that a list hands out, with what it carries
 abbrev pub Each : {D : Type 0} → (D → ℕ → ℕ → Type 0) → Trace D → Type 0
 Each P (over w) = Unit
-Each P (gave (item b e d) w t) = P d b e × Each P t
-Each P (lost n vs w t) = Each P t
+Each P (handed (gives (item b e d)) w t) = P d b e × Each P t
+Each P (handed (refused n vs) w t) = Each P t
 
 -- of the range that a call hands out
 abbrev pub Yielded : {D : Type 0} → (D → ℕ → ℕ → Type 0) → Next (Item D) Walk → Type 0
-Yielded P (yields (item b e d) w) = P d b e
+Yielded P (hands (gives (item b e d)) w) = P d b e
 Yielded P (ends w) = Unit
-Yielded P (stops n vs w) = Unit
+Yielded P (hands (refused n vs) w) = Unit
 
 -- every range met by walking, by the entry that it comes from: a whole walk, and a single call. That the list with its entries is
 -- the list is said beside it, so that no range can be put down to another entry

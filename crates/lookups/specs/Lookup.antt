@@ -4,72 +4,66 @@ use mathlib.Core.Bool.{Bool, false, true, _&&_}
 use mathlib.Core.List.{List}
 use lib.Dec.{leb, ltb}
 use lib.ListN.{length}
-use Rattle.bytes.specs.Read.{Result, gives, refuses, pick}
-use Rattle.bytes.specs.Error.{number, values}
+use Rattle.bytes.specs.Read.{Result, gives, refused, andThen, pick}
+use Rattle.bytes.specs.Error.{refusal}
 use Rattle.bytes.specs.declared.common.DebugAddrBase.{DebugAddrBase}
 use Rattle.bytes.specs.declared.common.Encoding.{Encoding}
 use Rattle.bytes.specs.declared.endianity.RunTimeEndian.{RunTimeEndian}
 use Rattle.entries.specs.declared.Expression.{Expression}
 use Rattle.lists.specs.Open.{opened}
 use Rattle.lists.specs.Convert.{tableAt}
-use Rattle.lists.specs.Walk.{listed, CarriedIn, itemIn, Item, item, Trace, over, gave, lost, trace}
+use Rattle.lists.specs.Walk.{listed, CarriedIn, itemIn, Item, item, Trace, over, trace, handed}
 use Rattle.lists.specs.declared.Walk.{Walk}
 use Rattle.lookups.specs.declared.RangeFound.{RangeFound}
 use Rattle.lookups.specs.declared.RangeFound.the-variants as range
 use Rattle.lookups.specs.declared.LocationFound.{LocationFound}
 use Rattle.lookups.specs.declared.LocationFound.the-variants as location
 
--- the entry found, "not there", or a refusal
+-- the entry found, or "not there"
 pub data Found (D : Type 0) : Type 0 where
   found : Item D → Found D
   notThere : Found D
-  refused : ℕ → List ℕ → Found D
 
 abbrev pub holds : ℕ → ℕ → ℕ → Bool
 holds a b e = leb b a && ltb a e
 
 -- a refusal met before the entry is the answer
-unfoldable pub lookupIn : {D : Type 0} → ℕ → Trace D → Found D
-lookupIn a (over w) = notThere
-lookupIn a (gave (item b e d) w t) = pick (holds a b e) (found (item b e d)) (lookupIn a t)
-lookupIn a (lost n vs w t) = refused n vs
-
--- what follows an opening; its refusal is the answer
-abbrev pub fromOpening : {D : Type 0} → (Walk → Found D) → Result Walk → Found D
-fromOpening f (gives w) = f w
-fromOpening f (refuses n vs) = refused n vs
+unfoldable pub lookupIn : {D : Type 0} → ℕ → Trace D → Result (Found D)
+lookupIn a (over w) = gives notThere
+lookupIn a (handed (gives (item b e d)) w t) = pick (holds a b e) (gives (found (item b e d))) (lookupIn a t)
+lookupIn a (handed (refused n vs) w t) = refused n vs
 
 -- both lists' lookups from a walk on, by whether the list holds locations
-abbrev pub lookupFrom : (l : Bool) → Bool → Encoding → RunTimeEndian → List ℕ → List ℕ → DebugAddrBase → ℕ → Walk → Found (CarriedIn l)
+abbrev pub lookupFrom : (l : Bool) → Bool → Encoding → RunTimeEndian → List ℕ → List ℕ → DebugAddrBase → ℕ → Walk → Result (Found (CarriedIn l))
 lookupFrom l split encoding endian s table tableBase a w =
     lookupIn a (trace (listed l split encoding endian s) (tableAt endian encoding tableBase table) (encoding .«address_size») (length s) w)
 
-abbrev pub lookupRangeFrom : Encoding → RunTimeEndian → List ℕ → List ℕ → DebugAddrBase → ℕ → Walk → Found Unit
+abbrev pub lookupRangeFrom : Encoding → RunTimeEndian → List ℕ → List ℕ → DebugAddrBase → ℕ → Walk → Result (Found Unit)
 lookupRangeFrom encoding endian s table tableBase a w = lookupFrom false false encoding endian s table tableBase a w
 
-abbrev pub lookupRange : Encoding → RunTimeEndian → List ℕ → List ℕ → DebugAddrBase → ℕ → ℕ → ℕ → Found Unit
+abbrev pub lookupRange : Encoding → RunTimeEndian → List ℕ → List ℕ → DebugAddrBase → ℕ → ℕ → ℕ → Result (Found Unit)
 lookupRange encoding endian s table tableBase offset base a =
-    fromOpening (lookupRangeFrom encoding endian s table tableBase a) (opened encoding s offset base)
+    andThen (opened encoding s offset base) (lookupRangeFrom encoding endian s table tableBase a)
 
-abbrev pub lookupLocationFrom : Bool → Encoding → RunTimeEndian → List ℕ → List ℕ → DebugAddrBase → ℕ → Walk → Found Expression
+abbrev pub lookupLocationFrom : Bool → Encoding → RunTimeEndian → List ℕ → List ℕ → DebugAddrBase → ℕ → Walk → Result (Found Expression)
 lookupLocationFrom split encoding endian s table tableBase a w = lookupFrom true split encoding endian s table tableBase a w
 
-abbrev pub lookupLocation : Bool → Encoding → RunTimeEndian → List ℕ → List ℕ → DebugAddrBase → ℕ → ℕ → ℕ → Found Expression
+abbrev pub lookupLocation : Bool → Encoding → RunTimeEndian → List ℕ → List ℕ → DebugAddrBase → ℕ → ℕ → ℕ → Result (Found Expression)
 lookupLocation split encoding endian s table tableBase offset base a =
-    fromOpening (lookupLocationFrom split encoding endian s table tableBase a) (opened encoding s offset base)
+    andThen (opened encoding s offset base) (lookupLocationFrom split encoding endian s table tableBase a)
 
-abbrev pub toldRange : RangeFound → Found Unit
-toldRange (range.Found r) = found (item (r .begin) (r .end) tt)
-toldRange range.NotThere = notThere
-toldRange (range.Refused e) = refused (number e) (values e)
+abbrev pub toldRange : RangeFound → Result (Found Unit)
+toldRange (range.Found r) = gives (found (item (r .begin) (r .end) tt))
+toldRange range.NotThere = gives notThere
+toldRange (range.Refused e) = refusal e
 
-abbrev pub toldLocation : LocationFound → Found Expression
-toldLocation (location.Found x) = found (item (x .range .begin) (x .range .end) (x .«data»))
-toldLocation location.NotThere = notThere
-toldLocation (location.Refused e) = refused (number e) (values e)
+abbrev pub toldLocation : LocationFound → Result (Found Expression)
+toldLocation (location.Found x) = gives (found (item (x .range .begin) (x .range .end) (x .«data»)))
+toldLocation location.NotThere = gives notThere
+toldLocation (location.Refused e) = refusal e
 
 -- an answer of the code for both lists, told as its list's
-abbrev pub foundIn : (l : Bool) → Found Expression → Found (CarriedIn l)
-foundIn l (found i) = found (itemIn l i)
-foundIn l notThere = notThere
+abbrev pub foundIn : (l : Bool) → Result (Found Expression) → Result (Found (CarriedIn l))
+foundIn l (gives (found i)) = gives (found (itemIn l i))
+foundIn l (gives notThere) = gives notThere
 foundIn l (refused n vs) = refused n vs

@@ -1,7 +1,6 @@
 -- Opening, then the lookup from there. Assumes nothing.
-use Rattle.lists.proofs.OpenLaws.{opened-size}
+use Rattle.lists.proofs.OpenLaws.{opened-size, list-then, no-list-then}
 use Rattle.lookups.proofs.FoundLaws.{found-same}
-use Rattle.lookups.specs.Lookup.{fromOpening}
 use Rattle.lists.specs.Open.{toldOpened}
 use mathlib.Core.Path.{sym, ap, _∙_}
 use borrow.Author.Needs.{needs}
@@ -21,10 +20,10 @@ found-from-requires : tie.Need-found-from-requires
 found-from-requires c κs = opened-size _ _ _ _ (sym (c .before .before .before .locations .ensures) ∙ ap toldOpened (c .before .start .given .1))
 
 returns : tie.Need-returns
-returns c = sym (ap (fromOpening _) (sym (c .before .before .before .locations .ensures) ∙ ap toldOpened (c .before .e .given .1)))
+returns c = sym (no-list-then _ (c .before .before .before .locations .ensures) (c .before .e .given .1))
 
 returns-2 : tie.Need-returns-2
-returns-2 c = sym (found-same _) ∙ c .found-from .ensures ∙ sym (ap (fromOpening _) (sym (c .before .before .before .before .locations .ensures) ∙ ap toldOpened (c .before .before .start .given .1)))
+returns-2 c = sym (found-same _) ∙ c .found-from .ensures ∙ sym (list-then _ (c .before .before .before .before .locations .ensures) (c .before .before .start .given .1))
 
 pub lookup-location-spec : {M : Type 1} → statement M
 lookup-location-spec =

@@ -1,6 +1,5 @@
 -- Opening, then the lookup from there. Assumes nothing.
-use Rattle.lists.proofs.OpenLaws.{opened-size}
-use Rattle.lookups.specs.Lookup.{fromOpening}
+use Rattle.lists.proofs.OpenLaws.{opened-size, list-then, no-list-then}
 use Rattle.lists.specs.Open.{toldOpened}
 use mathlib.Core.Path.{sym, ap, _∙_}
 use borrow.Author.Needs.{needs}
@@ -23,10 +22,10 @@ range-found-requires : tie.Need-range-found-requires
 range-found-requires c κs = search needs
 
 returns : tie.Need-returns
-returns c = sym (ap (fromOpening _) (sym (c .before .before .before .ranges .ensures) ∙ ap toldOpened (c .before .e .given .1)))
+returns c = sym (no-list-then _ (c .before .before .before .ranges .ensures) (c .before .e .given .1))
 
 returns-2 : tie.Need-returns-2
-returns-2 c = c .range-found .ensures ∙ c .before .found-from .ensures ∙ sym (ap (fromOpening _) (sym (c .before .before .before .before .before .ranges .ensures) ∙ ap toldOpened (c .before .before .before .start .given .1)))
+returns-2 c = c .range-found .ensures ∙ c .before .found-from .ensures ∙ sym (list-then _ (c .before .before .before .before .before .ranges .ensures) (c .before .before .before .start .given .1))
 
 pub lookup-range-spec : {M : Type 1} → statement M
 lookup-range-spec =

@@ -7,7 +7,7 @@ use lib.ListN.{length}
 use Rattle.lists.specs.Convert.{tableAt}
 use Rattle.lists.specs.Walk.{listed, trace, nextIn, toldNextLocation}
 use Rattle.lists.proofs.Past.{listed-past}
-use Rattle.lists.proofs.CallLaws.{next-yields, next-ends, next-stops, next-ahead}
+use Rattle.lists.proofs.CallLaws.{next-hands, next-ends, next-ahead}
 use Rattle.coverage.specs.Ranges.{limit}
 use Rattle.coverage.specs.Covered.{yieldedIn}
 use Rattle.coverage.proofs.GatherLaws.{Gathering, gathering-none, gathering-more, gathering-over, gathering-lost, gathering-many}
@@ -42,10 +42,10 @@ loop-less : tie.Need-loop-less Inv-loop μ-loop
 loop-less c = omega (arith, next-ahead _ _ _ _ (let a = c .before .before .before .before .before .before .before .before .before .before .before .before .args in listed-past (a .locations) (a .split) (a .encoding) (a .endian) (a .section .now)) _ (c .before .before .before .before .before .before .before .before .before .before .before .before .pre .0) (sym (c .before .before .before .before .before .before .before .before .next .ensures) ∙ ap (λ r. nextIn (c .before .before .before .before .before .before .before .before .before .before .before .before .args .locations) (toldNextLocation r)) (c .before .before .before .before .before .before .location .given .1)))
 
 loop-again : tie.Need-loop-again Inv-loop μ-loop
-loop-again c = gathering-more (c .before .before .before .before .before .before .before .before .before .loop .inv) (c .before .store .ensures) (next-yields _ _ _ _ (let a = c .before .before .before .before .before .before .before .before .before .before .before .before .args in listed-past (a .locations) (a .split) (a .encoding) (a .endian) (a .section .now)) _ (c .before .before .before .before .before .before .before .before .before .before .before .before .pre .0) (sym (c .before .before .before .before .before .before .before .before .next .ensures) ∙ ap (λ r. nextIn (c .before .before .before .before .before .before .before .before .before .before .before .before .args .locations) (toldNextLocation r)) (c .before .before .before .before .before .before .location .given .1))) (c .if1 .taken)
+loop-again c = gathering-more (c .before .before .before .before .before .before .before .before .before .loop .inv) (c .before .store .ensures) (next-hands _ _ _ _ (let a = c .before .before .before .before .before .before .before .before .before .before .before .before .args in listed-past (a .locations) (a .split) (a .encoding) (a .endian) (a .section .now)) _ (c .before .before .before .before .before .before .before .before .before .before .before .before .pre .0) (sym (c .before .before .before .before .before .before .before .before .next .ensures) ∙ ap (λ r. nextIn (c .before .before .before .before .before .before .before .before .before .before .before .before .args .locations) (toldNextLocation r)) (c .before .before .before .before .before .before .location .given .1))) (c .if1 .taken)
 
 returns : tie.Need-returns Inv-loop μ-loop
-returns c = gathering-many (c .before .before .before .before .before .before .before .before .before .loop .inv) (c .before .store .ensures) (next-yields _ _ _ _ (let a = c .before .before .before .before .before .before .before .before .before .before .before .before .args in listed-past (a .locations) (a .split) (a .encoding) (a .endian) (a .section .now)) _ (c .before .before .before .before .before .before .before .before .before .before .before .before .pre .0) (sym (c .before .before .before .before .before .before .before .before .next .ensures) ∙ ap (λ r. nextIn (c .before .before .before .before .before .before .before .before .before .before .before .before .args .locations) (toldNextLocation r)) (c .before .before .before .before .before .before .location .given .1))) (c .if1 .left)
+returns c = gathering-many (c .before .before .before .before .before .before .before .before .before .loop .inv) (c .before .store .ensures) (next-hands _ _ _ _ (let a = c .before .before .before .before .before .before .before .before .before .before .before .before .args in listed-past (a .locations) (a .split) (a .encoding) (a .endian) (a .section .now)) _ (c .before .before .before .before .before .before .before .before .before .before .before .before .pre .0) (sym (c .before .before .before .before .before .before .before .before .next .ensures) ∙ ap (λ r. nextIn (c .before .before .before .before .before .before .before .before .before .before .before .before .args .locations) (toldNextLocation r)) (c .before .before .before .before .before .before .location .given .1))) (c .if1 .left)
 
 enum-told : tie.Need-enum-told Inv-loop μ-loop
 enum-told c = search needs
@@ -57,7 +57,7 @@ enum-known-e : tie.Need-enum-known-e Inv-loop μ-loop
 enum-known-e c = search needs
 
 returns-3 : tie.Need-returns-3 Inv-loop μ-loop
-returns-3 c = gathering-lost (c .before .before .before .before .loop .inv) (next-stops _ _ _ _ (let a = c .before .before .before .before .before .before .before .args in listed-past (a .locations) (a .split) (a .encoding) (a .endian) (a .section .now)) _ (c .before .before .before .before .before .before .before .pre .0) (sym (c .before .before .before .next .ensures) ∙ ap (λ r. nextIn (c .before .before .before .before .before .before .before .args .locations) (toldNextLocation r)) (c .before .e .given .1)))
+returns-3 c = gathering-lost (c .before .before .before .before .loop .inv) (next-hands _ _ _ _ (let a = c .before .before .before .before .before .before .before .args in listed-past (a .locations) (a .split) (a .encoding) (a .endian) (a .section .now)) _ (c .before .before .before .before .before .before .before .pre .0) (sym (c .before .before .before .next .ensures) ∙ ap (λ r. nextIn (c .before .before .before .before .before .before .before .args .locations) (toldNextLocation r)) (c .before .e .given .1)))
 
 pub gather-spec : {M : Type 1} → statement M
 gather-spec =

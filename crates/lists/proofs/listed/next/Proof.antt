@@ -7,7 +7,7 @@ use mathlib.Core.Path.{_≡_, refl, sym, ap, _∙_, subst}
 use native.Mathlib.Omega.{arith}
 use borrow.Author.Needs.{needs}
 use lib.ListN.{length}
-use Rattle.bytes.specs.Read.{got}
+use Rattle.bytes.specs.Read.{gives, got}
 use Rattle.bytes.specs.Reader.{isSize}
 use Rattle.bytes.specs.declared.common.DebugAddrBase.{DebugAddrBase}
 use Rattle.bytes.specs.declared.common.Encoding.{Encoding}
@@ -45,7 +45,7 @@ so-far : (c : tie.At-loop Inv-loop μ-loop) → (let a = c .before .before .befo
 so-far c = next-first _ _ _ _ _ (sized c) ∙ ap first (c .loop .inv)
 
 entry-read : (c : tie.After-known-told2 Inv-loop μ-loop) → (let a = c .before .before .before .before .before .before .before .before .before .before .before .args in
-    readIn (a .locations) (a .split) (a .encoding) (a .endian) (a .section .now) (c .before .before .before .before .before .loop .at) ≡ got (entry (entryIn (a .locations) (c .before .raw .given .0 .0))) (c .before .raw .given .0 .1 .0))
+    readIn (a .locations) (a .split) (a .encoding) (a .endian) (a .section .now) (c .before .before .before .before .before .loop .at) ≡ gives (got (entry (entryIn (a .locations) (c .before .raw .given .0 .0))) (c .before .raw .given .0 .1 .0)))
 entry-read c = step-found _ (sym (ap (λ r. stepIn (c .before .before .before .before .before .before .before .before .before .before .before .args .locations) (toldLocation r)) (c .before .raw .given .1)) ∙ c .before .before .before .raw-entry .ensures)
 
 entry-past : (c : tie.After-known-told2 Inv-loop μ-loop) → (c .before .before .before .before .before .loop .at < c .before .raw .given .0 .1 .0) × (c .before .raw .given .0 .1 .0 ≤ length (c .before .before .before .before .before .before .before .before .before .before .before .args .section .now))
