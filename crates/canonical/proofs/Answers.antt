@@ -4,7 +4,7 @@ use mathlib.Core.Bool.{true, false}
 use mathlib.Core.List.{List}
 use Prim.Native.Nat.{ℕ}
 use lib.ListN.{length}
-use Rattle.bytes.specs.Error.{number, values, refusing}
+use Rattle.bytes.specs.Error.{number, values, refusal}
 use Rattle.bytes.specs.declared.error.Error.the-variants.{BadSheet}
 use Rattle.coverage.specs.Ranges.{limit}
 use Rattle.coverage.specs.Kept.{rangesOf, lawfulSheet}
@@ -27,7 +27,7 @@ pub arrays : (c : Coverage) → lawfulSheet c ≡ true
 arrays c law b e = record { few = lawful-few c law; begins = b; ends = e; apart = lawful-apart c law }
 
 module _ (c : Coverage) (l : List ℕ) where
-  pub canonical-refused : lawfulSheet c ≡ false → output (refusing BadSheet) l ≡ written (canonicalKept c) l
+  pub canonical-refused : lawfulSheet c ≡ false → output (refusal BadSheet) l ≡ written (canonicalKept c) l
   unfolding canonicalKept
   canonical-refused e = rw e (sym (written-refused (number BadSheet) (values BadSheet) l))
 

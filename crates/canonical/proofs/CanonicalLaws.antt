@@ -8,7 +8,8 @@ use native.Mathlib.Omega.{arith}
 use lib.ListN.{length, drop, getD, length-append, length-drop}
 use lib.Seq.{take-at, drop-drop, drop-append-seam}
 use borrow.Author.Tests.{le-leb, lt-leb}
-use Rattle.bytes.specs.Read.{got, Result, gives}
+use Rattle.coverage.proofs.CoveredLaws.{mapped}
+use Rattle.bytes.specs.Read.{Result, gives, got}
 use Rattle.bytes.specs.Endianity.{little}
 use Rattle.bytes.specs.Reader.{uint, isSize, address}
 use Rattle.bytes.specs.Leb128.{unsigned}
@@ -25,12 +26,12 @@ use Rattle.entries.proofs.KindLaws.{range-coded, raw-there}
 use Rattle.entries.proofs.EntryTook.{range-took}
 use Rattle.lists.specs.Open.{walkAt, opened}
 use Rattle.lists.specs.Convert.{range, convert, tableAt}
-use Rattle.lists.specs.Walk.{ranges, item, Trace, over, gave, trace}
+use Rattle.lists.specs.Walk.{ranges, item, Trace, over, trace, handed}
 use Rattle.lists.specs.Walks.{InBounds}
 use Rattle.lists.proofs.Local.{past}
 use Rattle.lists.proofs.WalkLaws.{Moved, met-entry, met-end}
 use Rattle.coverage.specs.Ranges.{Range, limit}
-use Rattle.coverage.specs.Covered.{mapped, yieldedIn, traceOf, yieldedOf, canonicalEncoding, readBack}
+use Rattle.coverage.specs.Covered.{yieldedIn, traceOf, yieldedOf, canonicalEncoding, readBack}
 use Rattle.coverage.proofs.Small.{Small}
 use Rattle.bytes.specs.Written.{littleBytes, unsignedBytes}
 use Rattle.canonical.specs.Canonical.{entryBytes, canonicalBytes}
@@ -57,44 +58,44 @@ module _ (format : Format) (r : Range) (rest : List ℕ) (small : InBounds 8 (r 
   unfolding spread
   spread-length = rw (length-append (littleBytes 8 (r .0)) (unsignedBytes (r .1 - r .0) ++ rest), length-little) (omega arith)
 
-  code-back : uint Little 1 (spread r rest) 0 ≡ got 7 1
+  code-back : uint Little 1 (spread r rest) 0 ≡ gives (got 7 1)
   unfolding spread little
   code-back = uint-got Little 1 (spread r rest) 0 (omega (arith, spread-length))
 
-  begin-back : address Little 8 (spread r rest) 1 ≡ got (r .0) 9
+  begin-back : address Little 8 (spread r rest) 1 ≡ gives (got (r .0) 9)
   unfolding spread
   begin-back =
       address-size Little 8 (spread r rest) 1 size-8
       ∙ uint-got Little 8 (spread r rest) 1 (omega (arith, spread-length))
-      ∙ ap (λ (l : List ℕ). got (little l) 9) (take-at (littleBytes 8 (r .0)) (unsignedBytes (r .1 - r .0) ++ rest) 8 (length-little 8 (r .0)))
-      ∙ ap (λ (n : ℕ). got n 9) (little-back 8 (r .0) (omega arith))
+      ∙ ap (λ (l : List ℕ). gives (got (little l) 9)) (take-at (littleBytes 8 (r .0)) (unsignedBytes (r .1 - r .0) ++ rest) 8 (length-little 8 (r .0)))
+      ∙ ap (λ (n : ℕ). gives (got n 9)) (little-back 8 (r .0) (omega arith))
 
-  length-back : unsigned (spread r rest) 9 ≡ got (r .1 - r .0) (9 + length (unsignedBytes (r .1 - r .0)))
+  length-back : unsigned (spread r rest) 9 ≡ gives (got (r .1 - r .0) (9 + length (unsignedBytes (r .1 - r .0))))
   unfolding spread littleBytes unsigned
   length-back = unsigned-back 0 9 (r .1 - r .0) 9 rest refl (omega arith)
 
   -- the raw entry of a range
-  entry-back : rangeEntry (canonicalEncoding format) Little (spread r rest) ≡ got (entry (StartLength (r .0) (r .1 - r .0))) (9 + length (unsignedBytes (r .1 - r .0)))
+  entry-back : rangeEntry (canonicalEncoding format) Little (spread r rest) ≡ gives (got (entry (StartLength (r .0) (r .1 - r .0))) (9 + length (unsignedBytes (r .1 - r .0))))
   unfolding coded kindOf rangeKinds
   entry-back = range-coded (canonicalEncoding format) Little (spread r rest) (omega arith) ∙ rw (code-back, begin-back, length-back)
 
 -- the raw entry of the end mark
-end-back : (format : Format) → rangeEntry (canonicalEncoding format) Little (0 ∷ []) ≡ got stop 1
+end-back : (format : Format) → rangeEntry (canonicalEncoding format) Little (0 ∷ []) ≡ gives (got stop 1)
 unfolding coded kindOf rangeKinds little
 end-back format = range-coded (canonicalEncoding format) Little (0 ∷ []) (omega arith) ∙ rw (uint-got Little 1 (0 ∷ []) 0 (omega arith))
 
 -- what the entry comes to
-turn-back : (table : DebugAddrIndex → Result ℕ) (base b e : ℕ) → InBounds 8 b e → range b e ≡ convert table 8 base (StartLength b (e - b))
+turn-back : (table : DebugAddrIndex → Result ℕ) (base b e : ℕ) → InBounds 8 b e → gives (range b e) ≡ convert table 8 base (StartLength b (e - b))
 unfolding convert
 turn-back table base b e small =
     let s : addSized b (e - b) 8 ≡ e = omega arith in
     rw (s, lt-leb (2 ^ 64 - 2) b (small .1), lt-leb e b (small .0))
 
 -- what a canonical list does: it hands out each range, with the walk after its entry; then it is over
-abbrev pub handed : ℕ → ℕ → ℕ → List Range → Trace Unit
-handed len base at [] = over (walkAt len base)
-handed len base at (r ∷ rs) =
-    gave (item (r .0) (r .1) tt) (walkAt (at + length (entryBytes r)) base) (handed len base (at + length (entryBytes r)) rs)
+abbrev pub handsOut : ℕ → ℕ → ℕ → List Range → Trace Unit
+handsOut len base at [] = over (walkAt len base)
+handsOut len base at (r ∷ rs) =
+    handed (gives (item (r .0) (r .1) tt)) (walkAt (at + length (entryBytes r)) base) (handsOut len base (at + length (entryBytes r)) rs)
 
 bytes-some : (rs : List Range) → 1 ≤ length (canonicalBytes rs)
 unfolding canonicalBytes
@@ -109,15 +110,15 @@ module _ (format : Format) (s : List ℕ) (table : DebugAddrIndex → Result ℕ
   inside rs at d = omega (arith, length-drop at s, ap length d, bytes-some rs)
 
   read-entry : (at : ℕ) (r : Range) (rest : List ℕ) → InBounds 8 (r .0) (r .1) → at < length s → drop at s ≡ entryBytes r ++ rest
-      → rawRange (canonicalEncoding format) Little s at ≡ got (entry (StartLength (r .0) (r .1 - r .0))) (at + length (entryBytes r))
+      → rawRange (canonicalEncoding format) Little s at ≡ gives (got (entry (StartLength (r .0) (r .1 - r .0))) (at + length (entryBytes r)))
   read-entry at r rest small h d =
       raw-there (rangeEntry (canonicalEncoding format) Little) s at h
       ∙ ap (λ (l : List ℕ). moved at (rangeEntry (canonicalEncoding format) Little l)) (d ∙ entry-spread r rest)
       ∙ ap (moved at) (entry-back format r rest small)
-      ∙ ap (λ (n : ℕ). got (entry (StartLength (r .0) (r .1 - r .0))) (at + n)) (sym (entry-length r))
+      ∙ ap (λ (n : ℕ). gives (got (entry (StartLength (r .0) (r .1 - r .0))) (at + n))) (sym (entry-length r))
 
   walked-from : (rs : List Range) → Small rs → (at : ℕ) → drop at s ≡ canonicalBytes rs
-      → trace (ranges (canonicalEncoding format) Little s) table 8 (length s) (walkAt at base) ≡ handed (length s) base at rs
+      → trace (ranges (canonicalEncoding format) Little s) table 8 (length s) (walkAt at base) ≡ handsOut (length s) base at rs
   unfolding canonicalBytes
   walked-from [] small at d =
       let h = inside [] at d in
@@ -129,12 +130,12 @@ module _ (format : Format) (s : List ℕ) (table : DebugAddrIndex → Result ℕ
       let rest : drop c s ≡ canonicalBytes rs = sym (drop-drop (length (entryBytes r)) at s) ∙ ap (drop (length (entryBytes r))) d ∙ drop-append-seam (entryBytes r) (canonicalBytes rs) in
       met-entry (ranges (canonicalEncoding format) Little s) table 8 (length s) moves at base h
       (read-entry at r (canonicalBytes rs) (small .0) h d) (turn-back table base (r .0) (r .1) (small .0))
-      ∙ ap (gave (item (r .0) (r .1) tt) (walkAt c base)) (walked-from rs (small .1) c rest)
+      ∙ ap (handed (gives (item (r .0) (r .1) tt)) (walkAt c base)) (walked-from rs (small .1) c rest)
 
 -- a canonical list walked as the DWARF 5 range list of size 8 that it is, with any base address and any address table: each
 -- range in order, then over
 pub walked-back : (format : Format) (rs : List Range) → Small rs → (table : DebugAddrIndex → Result ℕ) (base : ℕ)
-    → trace (ranges (canonicalEncoding format) Little (canonicalBytes rs)) table 8 (length (canonicalBytes rs)) (walkAt 0 base) ≡ handed (length (canonicalBytes rs)) base 0 rs
+    → trace (ranges (canonicalEncoding format) Little (canonicalBytes rs)) table 8 (length (canonicalBytes rs)) (walkAt 0 base) ≡ handsOut (length (canonicalBytes rs)) base 0 rs
 walked-back format rs small table base = walked-from format (canonicalBytes rs) table base rs small 0 refl
 
 -- canonical bytes are bytes
@@ -151,7 +152,7 @@ canonical-bytes [] small (suc i) = omega arith
 canonical-bytes (r ∷ rs) small i = append-bytes (entryBytes r) (canonicalBytes rs) (entry-bytes r (small .0)) (canonical-bytes rs (small .1)) i
 
 -- what a canonical list yields
-handed-yields : (room len base at : ℕ) (rs : List Range) → length rs ≤ room → yieldedIn room (handed len base at rs) ≡ gives rs
+handed-yields : (room len base at : ℕ) (rs : List Range) → length rs ≤ room → yieldedIn room (handsOut len base at rs) ≡ gives rs
 unfolding yieldedIn
 handed-yields room len base at [] h = refl
 handed-yields zero len base at (r ∷ rs) h = absurd (omega arith)

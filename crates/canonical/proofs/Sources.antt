@@ -7,12 +7,13 @@ use mathlib.Core.Logic.{_↔_}
 use Prim.Native.Nat.{ℕ, _≤_, _<_}
 use native.Mathlib.Omega.{arith}
 use lib.ListN.{length, getD}
-use Rattle.bytes.specs.Read.{Result, gives, refuses, pick}
+use Rattle.coverage.proofs.CoveredLaws.{mapped}
+use Rattle.bytes.specs.Read.{Result, gives, refused, pick}
 use Rattle.bytes.specs.declared.common.DebugAddrBase.{DebugAddrBase}
 use Rattle.bytes.specs.declared.common.Format.{Format}
 use Rattle.bytes.specs.declared.common.Format.the-variants.{Dwarf32}
 use Rattle.coverage.specs.Ranges.{Range, Covers, limit, runs}
-use Rattle.coverage.specs.Covered.{mapped, Source, yieldedOf, coverageOf, CoveredBy, Bytes, readBack}
+use Rattle.coverage.specs.Covered.{Source, yieldedOf, coverageOf, CoveredBy, Bytes, readBack}
 use Rattle.coverage.specs.Kept.{rangesOf, keptAs, lawfulSheet}
 use Rattle.canonical.specs.Canonical.{canonicalBytes, canonicalOf, canonicalKept}
 use Rattle.coverage.specs.declared.Coverage.{Coverage}
@@ -25,7 +26,7 @@ use Rattle.coverage.proofs.KeptLaws.{Lawful, ranges-kept, kept-lawful}
 -- a coverage's ranges are the runs of those that were yielded
 pub mapped-gives : {A B : Type 0} (f : A → B) (r : Result A) {b : B} → mapped f r ≡ gives b → (a : A) × (r ≡ gives a) × (f a ≡ b)
 mapped-gives f (gives a) e = (a, refl, cc)
-mapped-gives f (refuses n vs) e = let z : _≡_ {A = ℕ} 0 1 = cc in absurd (omega arith)
+mapped-gives f (refused n vs) e = let z : _≡_ {A = ℕ} 0 1 = cc in absurd (omega arith)
 
 module _ (x : Source) {xs rs : List Range} (yielded : yieldedOf x ≡ gives xs) (run : runs xs ≡ rs) where
   runs-covers : (a : ℕ) → Covers rs a ↔ CoveredBy x a
@@ -95,7 +96,7 @@ module _ (c : Coverage) where
   unfolding canonicalKept
   kept-ranges {bs} e = chosen (lawfulSheet c) (canonicalBytes (rangesOf c)) _ _ e
     where
-      chosen : (t : Bool) (l : List ℕ) (n : ℕ) (vs : List ℕ) → pick t (gives l) (refuses n vs) ≡ gives bs → (t ≡ true) × (l ≡ bs)
+      chosen : (t : Bool) (l : List ℕ) (n : ℕ) (vs : List ℕ) → pick t (gives l) (refused n vs) ≡ gives bs → (t ≡ true) × (l ≡ bs)
       chosen true l n vs e = (refl, cc)
       chosen false l n vs e = let z : _≡_ {A = ℕ} 0 1 = cc in absurd (omega arith)
 

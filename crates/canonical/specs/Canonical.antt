@@ -1,11 +1,11 @@
 -- The canonical list of a coverage (document 01, "Canonical list").
 use mathlib.Core.List.{List, [], _∷_, _++_}
 use Prim.Native.Nat.{ℕ, _-_}
-use Rattle.bytes.specs.Read.{Result, gives, pick}
-use Rattle.bytes.specs.Error.{refusing}
+use Rattle.bytes.specs.Read.{Result, gives, andThen, pick}
+use Rattle.bytes.specs.Error.{refusal}
 use Rattle.bytes.specs.declared.error.Error.the-variants.{BadSheet}
 use Rattle.coverage.specs.Ranges.{Range}
-use Rattle.coverage.specs.Covered.{Source, mapped, coverageOf}
+use Rattle.coverage.specs.Covered.{Source, coverageOf}
 use Rattle.coverage.specs.Kept.{rangesOf, lawfulSheet}
 use Rattle.bytes.specs.Written.{littleBytes, unsignedBytes}
 use Rattle.coverage.specs.declared.Coverage.{Coverage}
@@ -21,8 +21,8 @@ canonicalBytes (r ∷ rs) = entryBytes r ++ canonicalBytes rs
 
 -- the canonical list of a list, or its refusal
 unfoldable pub canonicalOf : Source → Result (List ℕ)
-canonicalOf x = mapped canonicalBytes (coverageOf x)
+canonicalOf x = andThen (coverageOf x) (λ rs. gives (canonicalBytes rs))
 
 -- the canonical list of a coverage handed in; one that makes no lawful sheet is refused (document 01, "Coverage")
 unfoldable pub canonicalKept : Coverage → Result (List ℕ)
-canonicalKept c = pick (lawfulSheet c) (gives (canonicalBytes (rangesOf c))) (refusing BadSheet)
+canonicalKept c = pick (lawfulSheet c) (gives (canonicalBytes (rangesOf c))) (refusal BadSheet)

@@ -2,7 +2,7 @@
 -- example.
 use mathlib.Core.Path.{_≡_, refl}
 use mathlib.Core.List.{[], _∷_}
-use Rattle.bytes.specs.Read.{gives, refuses}
+use Rattle.bytes.specs.Read.{gives, refused}
 use Rattle.bytes.specs.Endianity.{little}
 use Rattle.bytes.specs.Reader.{skip, uint, isSize, address}
 use Rattle.bytes.specs.declared.common.Format.the-variants.{Dwarf32}
@@ -38,7 +38,7 @@ unfolding
     inserts insert canonicalBytes entryBytes littleBytes unsignedIn
 canonical = refl
 
-no-sheet : sheetRanges (0x01 ∷ 0 ∷ 0x08 ∷ 0 ∷ []) ≡ refuses 12 []
+no-sheet : sheetRanges (0x01 ∷ 0 ∷ 0x08 ∷ 0 ∷ []) ≡ refused 12 []
 unfolding sheetRanges isSheet little
 no-sheet = refl
 

@@ -5,7 +5,7 @@ use mathlib.Core.Bool.{Bool, true, false}
 use mathlib.Core.List.{List, [], _∷_}
 use Prim.Native.Nat.{ℕ, zero, suc, _-_, _^_}
 use lib.ListN.{length}
-use Rattle.bytes.specs.Read.{Read, got, refused, Result, gives, refuses}
+use Rattle.bytes.specs.Read.{Result, gives, refused, got, Read, andThen}
 use Rattle.bytes.specs.Endianity.{little}
 use Rattle.bytes.specs.Leb128.{unsignedFrom, unsigned}
 use Rattle.bytes.specs.Reader.{skip, uint, split, truncate, partOf, isSize, address, addressSize, lengthOf, initialLength}
@@ -17,7 +17,7 @@ use Rattle.bytes.specs.declared.endianity.RunTimeEndian.the-variants.{Little}
 use Rattle.tables.specs.Header.{fields, head}
 use Rattle.tables.specs.Lists.{Parsed, parsed, listsHeader}
 use Rattle.tables.specs.Row.{rowAt, offsetAt}
-use Rattle.tables.specs.Next.{Next, yields, ends, stops}
+use Rattle.tables.specs.Next.{Next, ends, hands}
 use Rattle.tables.specs.Addr.{addressAt, addrHeader, headersAt, nextHeader, entriesOf, nextEntry}
 use Rattle.tables.specs.declared.addr.AddrHeader.{AddrHeader}
 use Rattle.tables.specs.declared.addr.AddrHeaderIter.{AddrHeaderIter}
@@ -27,7 +27,7 @@ use Rattle.entries.specs.Kinds.{rangeKinds, locationKinds, kindOf, coded, ofPai
 use Rattle.entries.specs.declared.Expression.{Expression}
 use Rattle.lists.specs.Convert.{convert, tableAt}
 use Rattle.lists.specs.Open.{walkAt, opened}
-use Rattle.lists.specs.Walk.{ranges, locations, Item, item, Trace, over, gave, lost, traceFrom, trace, next, nextRange}
+use Rattle.lists.specs.Walk.{ranges, locations, Item, item, Trace, over, traceFrom, trace, next, nextRange, handed}
 use Rattle.lists.specs.declared.Walk.{Walk}
 
 abbrev enc : ℕ → ℕ → Encoding
@@ -37,16 +37,12 @@ enc version size = record { «address_size» = size; format = Dwarf32; version =
 abbrev table : List ℕ
 table = 0x0c ∷ 0x00 ∷ 0x00 ∷ 0x00 ∷ 0x05 ∷ 0x00 ∷ 0x04 ∷ 0x00 ∷ 0x10 ∷ 0x00 ∷ 0x00 ∷ 0x00 ∷ 0x20 ∷ 0x00 ∷ 0x00 ∷ 0x00 ∷ []
 
-abbrev from : {D : Type 0} → Result Walk → (Walk → Trace D) → Result (Trace D)
-from (gives w) f = gives (f w)
-from (refuses n vs) f = refuses n vs
-
 -- a list by its address table and that table's base, then version, address size, bytes, offset and base address
 rangesIn : List ℕ → ℕ → ℕ → ℕ → List ℕ → ℕ → ℕ → Result (Trace Unit)
 unfolding opened trace traceFrom convert addressAt rowAt rangeEntry rawAt coded bare ofPair kindOf rangeKinds address skip uint isSize little unsigned unsignedFrom
 rangesIn t b version size s offset base =
-    from (opened (enc version size) s offset base)
-    (trace (ranges (enc version size) Little s) (tableAt Little (enc version size) (record { 0 = b }) t) size (length s))
+    andThen (opened (enc version size) s offset base)
+    (λ w. gives (trace (ranges (enc version size) Little s) (tableAt Little (enc version size) (record { 0 = b }) t) size (length s) w))
 
 abbrev range : ℕ → ℕ → List ℕ → ℕ → ℕ → Result (Trace Unit)
 range version size s offset base = rangesIn table 8 version size s offset base
@@ -55,8 +51,8 @@ location : Bool → ℕ → ℕ → List ℕ → ℕ → ℕ → Result (Trace E
 unfolding
     opened trace traceFrom convert addressAt rowAt locationEntry rawAt coded bare ofPair kindOf locationKinds versionedLength block split address skip uint isSize little unsigned unsignedFrom
 location dwo version size s offset base =
-    from (opened (enc version size) s offset base)
-    (trace (locations dwo (enc version size) Little s) (tableAt Little (enc version size) (record { 0 = 8 }) table) size (length s))
+    andThen (opened (enc version size) s offset base)
+    (λ w. gives (trace (locations dwo (enc version size) Little s) (tableAt Little (enc version size) (record { 0 = 8 }) table) size (length s) w))
 
 abbrev expression : ℕ → ℕ → Expression
 expression offset len = record { offset = offset; len = len }
@@ -70,23 +66,23 @@ empty-section : range 5 4 [] 0 0 ≡ gives (over (walkAt 0 0))
 unfolding rangesIn
 empty-section = refl
 
-past-the-section : range 5 4 [] 1 0 ≡ refuses 1 []
+past-the-section : range 5 4 [] 1 0 ≡ refused 1 []
 unfolding rangesIn
 past-the-section = refl
 
 -- ranges by start and end, by offsets, at the tombstone bound, past 2^32, and of one byte
 start-end : range 5 4 (0x06 ∷ 0x10 ∷ 0x00 ∷ 0x00 ∷ 0x00 ∷ 0x20 ∷ 0x00 ∷ 0x00 ∷ 0x00 ∷ 0x00 ∷ []) 0 0
-    ≡ gives (gave (item 0x10 0x20 tt) (walkAt 9 0) (over (walkAt 10 0)))
+    ≡ gives (handed (gives (item 0x10 0x20 tt)) (walkAt 9 0) (over (walkAt 10 0)))
 unfolding rangesIn
 start-end = refl
 
 padded-offsets : range 5 4 (0x04 ∷ 0x01 ∷ 0x82 ∷ 0x00 ∷ 0x00 ∷ []) 0 0x1000
-    ≡ gives (gave (item 0x1001 0x1002 tt) (walkAt 4 0x1000) (over (walkAt 5 0x1000)))
+    ≡ gives (handed (gives (item 0x1001 0x1002 tt)) (walkAt 4 0x1000) (over (walkAt 5 0x1000)))
 unfolding rangesIn
 padded-offsets = refl
 
 below-tombstone : range 5 4 (0x04 ∷ 0x00 ∷ 0x01 ∷ 0x00 ∷ []) 0 0xfffffffd
-    ≡ gives (gave (item 0xfffffffd 0xfffffffe tt) (walkAt 3 0xfffffffd) (over (walkAt 4 0xfffffffd)))
+    ≡ gives (handed (gives (item 0xfffffffd 0xfffffffe tt)) (walkAt 3 0xfffffffd) (over (walkAt 4 0xfffffffd)))
 unfolding rangesIn
 below-tombstone = refl
 
@@ -100,12 +96,12 @@ unfolding rangesIn
 base-at-tombstone = refl
 
 wrapped-sum : range 5 4 (0x04 ∷ 0x80 ∷ 0x02 ∷ 0x90 ∷ 0x02 ∷ 0x00 ∷ []) 0 0xffffff00
-    ≡ gives (gave (item 0 0x10 tt) (walkAt 5 0xffffff00) (over (walkAt 6 0xffffff00)))
+    ≡ gives (handed (gives (item 0 0x10 tt)) (walkAt 5 0xffffff00) (over (walkAt 6 0xffffff00)))
 unfolding rangesIn
 wrapped-sum = refl
 
 size-one : range 5 1 (0x07 ∷ 0xf0 ∷ 0x0f ∷ 0x00 ∷ []) 0 0
-    ≡ gives (gave (item 0xf0 0xff tt) (walkAt 3 0) (over (walkAt 4 0)))
+    ≡ gives (handed (gives (item 0xf0 0xff tt)) (walkAt 3 0) (over (walkAt 4 0)))
 unfolding rangesIn
 size-one = refl
 
@@ -117,11 +113,11 @@ size-one-skipped = refl
 abbrev tenth : ℕ → List ℕ
 tenth b = 0x80 ∷ 0x80 ∷ 0x80 ∷ 0x80 ∷ 0x80 ∷ 0x80 ∷ 0x80 ∷ 0x80 ∷ 0x80 ∷ b ∷ []
 
-tenth-01 : unsigned (tenth 0x01) 0 ≡ got (2 ^ 63) 10
+tenth-01 : unsigned (tenth 0x01) 0 ≡ gives (got (2 ^ 63) 10)
 unfolding unsigned unsignedFrom
 tenth-01 = refl
 
-tenth-00 : unsigned (tenth 0x00) 0 ≡ got 0 10
+tenth-00 : unsigned (tenth 0x00) 0 ≡ gives (got 0 10)
 unfolding unsigned unsignedFrom
 tenth-00 = refl
 
@@ -131,12 +127,12 @@ tenth-02 = refl
 
 -- bare pairs: a base and a pair; a pair of equal numbers, which ends nothing; the end pair, after which nothing is read
 bare-pairs : range 4 2 (0xff ∷ 0xff ∷ 0x00 ∷ 0x20 ∷ 0x01 ∷ 0x00 ∷ 0x03 ∷ 0x00 ∷ 0x00 ∷ 0x00 ∷ 0x00 ∷ 0x00 ∷ []) 0 0
-    ≡ gives (gave (item 0x2001 0x2003 tt) (walkAt 8 0x2000) (over (walkAt 12 0x2000)))
+    ≡ gives (handed (gives (item 0x2001 0x2003 tt)) (walkAt 8 0x2000) (over (walkAt 12 0x2000)))
 unfolding rangesIn
 bare-pairs = refl
 
 equal-pair : range 4 2 (0x05 ∷ 0x00 ∷ 0x05 ∷ 0x00 ∷ 0x01 ∷ 0x00 ∷ 0x03 ∷ 0x00 ∷ 0x00 ∷ 0x00 ∷ 0x00 ∷ 0x00 ∷ []) 0 0
-    ≡ gives (gave (item 1 3 tt) (walkAt 8 0) (over (walkAt 12 0)))
+    ≡ gives (handed (gives (item 1 3 tt)) (walkAt 8 0) (over (walkAt 12 0)))
 unfolding rangesIn
 equal-pair = refl
 
@@ -146,15 +142,14 @@ end-pair = refl
 
 -- the address table: a list with a row that is not there goes on after the refusal
 by-index : range 5 4 (0x02 ∷ 0x00 ∷ 0x02 ∷ 0x03 ∷ 0x00 ∷ 0x08 ∷ 0x00 ∷ []) 0 0
-    ≡ gives (lost 1 [] (walkAt 3 0) (gave (item 0x10 0x18 tt) (walkAt 6 0) (over (walkAt 7 0))))
+    ≡ gives (handed (refused 1 []) (walkAt 3 0) (handed (gives (item 0x10 0x18 tt)) (walkAt 6 0) (over (walkAt 7 0))))
 unfolding rangesIn
 by-index = refl
 
 -- the same, call after call
 abbrev after : {D : Type 0} → Next (Item D) Walk → Walk
-after (yields i w) = w
+after (hands r w) = w
 after (ends w) = w
-after (stops n vs w) = w
 
 calls : List ℕ → ℕ → Walk → List (Next (Item Unit) Walk)
 unfolding next trace traceFrom convert addressAt rowAt rangeEntry rawAt coded kindOf rangeKinds address skip uint isSize little unsigned unsignedFrom
@@ -163,7 +158,7 @@ calls s (suc n) w =
     let r = nextRange (enc 5 4) Little s table (record { 0 = 8 }) w in r ∷ calls s n (after r)
 
 by-calls : calls (0x02 ∷ 0x00 ∷ 0x02 ∷ 0x03 ∷ 0x00 ∷ 0x08 ∷ 0x00 ∷ []) 4 (walkAt 0 0)
-    ≡ stops 1 [] (walkAt 3 0) ∷ yields (item 0x10 0x18 tt) (walkAt 6 0) ∷ ends (walkAt 7 0) ∷ ends (walkAt 7 0) ∷ []
+    ≡ hands (refused 1 []) (walkAt 3 0) ∷ hands (gives (item 0x10 0x18 tt)) (walkAt 6 0) ∷ ends (walkAt 7 0) ∷ ends (walkAt 7 0) ∷ []
 unfolding calls
 by-calls = refl
 
@@ -180,7 +175,7 @@ row-1 : row 4 8 1 table ≡ gives 0x20
 unfolding row
 row-1 = refl
 
-row-2 : row 4 8 2 table ≡ refuses 1 []
+row-2 : row 4 8 2 table ≡ refused 1 []
 unfolding row
 row-2 = refl
 
@@ -192,7 +187,7 @@ headers : List ℕ → ℕ → Next AddrHeader AddrHeaderIter
 unfolding nextHeader addrHeader head fields initialLength truncate addressSize skip uint isSize little
 headers s at = nextHeader Little s (headersAt at)
 
-first-header : headers table 0 ≡ yields header (headersAt 16)
+first-header : headers table 0 ≡ hands (gives header) (headersAt 16)
 unfolding headers
 first-header = refl
 
@@ -208,11 +203,11 @@ entries s w = nextEntry Little s w
 abbrev left : ℕ → ℕ → ℕ → AddrEntryIter
 left size at len = record { entries = record { offset = at; len = len }; encoding = enc 5 size }
 
-entry-0 : entries table (entriesOf header) ≡ yields 0x10 (left 4 12 4)
+entry-0 : entries table (entriesOf header) ≡ hands (gives 0x10) (left 4 12 4)
 unfolding entries
 entry-0 = refl
 
-entry-1 : entries table (left 4 12 4) ≡ yields 0x20 (left 4 16 0)
+entry-1 : entries table (left 4 12 4) ≡ hands (gives 0x20) (left 4 16 0)
 unfolding entries
 entry-1 = refl
 
@@ -225,7 +220,7 @@ abbrev default : List ℕ
 default = 0x05 ∷ 0x01 ∷ 0x50 ∷ 0x00 ∷ []
 
 default-location : location false 5 4 default 0 0
-    ≡ gives (gave (item 0 (2 ^ 64 - 1) (expression 2 1)) (walkAt 3 0) (over (walkAt 4 0)))
+    ≡ gives (handed (gives (item 0 (2 ^ 64 - 1) (expression 2 1))) (walkAt 3 0) (over (walkAt 4 0)))
 unfolding location
 default-location = refl
 
@@ -237,7 +232,7 @@ abbrev splitList : List ℕ
 splitList = 0x03 ∷ 0x00 ∷ 0x08 ∷ 0x00 ∷ 0x00 ∷ 0x00 ∷ 0x01 ∷ 0x00 ∷ 0x50 ∷ 0x00 ∷ []
 
 split-4 : location true 4 4 splitList 0 0
-    ≡ gives (gave (item 0x10 0x18 (expression 8 1)) (walkAt 9 0) (over (walkAt 10 0)))
+    ≡ gives (handed (gives (item 0x10 0x18 (expression 8 1))) (walkAt 9 0) (over (walkAt 10 0)))
 unfolding location
 split-4 = refl
 
@@ -250,7 +245,7 @@ abbrev bareList : List ℕ
 bareList = 0xff ∷ 0xff ∷ 0x00 ∷ 0x20 ∷ 0x01 ∷ 0x00 ∷ 0x03 ∷ 0x00 ∷ 0x01 ∷ 0x00 ∷ 0x50 ∷ 0x00 ∷ 0x00 ∷ 0x00 ∷ 0x00 ∷ 0x51 ∷ []
 
 bare-locations : location false 4 2 bareList 0 0
-    ≡ gives (gave (item 0x2001 0x2003 (expression 10 1)) (walkAt 11 0x2000) (over (walkAt 16 0x2000)))
+    ≡ gives (handed (gives (item 0x2001 0x2003 (expression 10 1))) (walkAt 11 0x2000) (over (walkAt 16 0x2000)))
 unfolding location
 bare-locations = refl
 
@@ -259,19 +254,19 @@ unfolding partOf
 bare-expression = refl
 
 -- rows 1 to 4 of the refusals: a raw refusal empties the walk
-refusal-1 : range 5 4 (0x06 ∷ 0x10 ∷ 0x00 ∷ []) 0 0 ≡ gives (lost 1 [] (walkAt 3 0) (over (walkAt 3 0)))
+refusal-1 : range 5 4 (0x06 ∷ 0x10 ∷ 0x00 ∷ []) 0 0 ≡ gives (handed (refused 1 []) (walkAt 3 0) (over (walkAt 3 0)))
 unfolding rangesIn
 refusal-1 = refl
 
-refusal-2 : range 5 4 (0x04 ∷ tenth 0x02) 0 0 ≡ gives (lost 2 [] (walkAt 11 0) (over (walkAt 11 0)))
+refusal-2 : range 5 4 (0x04 ∷ tenth 0x02) 0 0 ≡ gives (handed (refused 2 []) (walkAt 11 0) (over (walkAt 11 0)))
 unfolding rangesIn
 refusal-2 = refl
 
-refusal-3 : range 5 4 (0x08 ∷ []) 0 0 ≡ gives (lost 3 (0x08 ∷ []) (walkAt 1 0) (over (walkAt 1 0)))
+refusal-3 : range 5 4 (0x08 ∷ []) 0 0 ≡ gives (handed (refused 3 (0x08 ∷ [])) (walkAt 1 0) (over (walkAt 1 0)))
 unfolding rangesIn
 refusal-3 = refl
 
-refusal-4 : location false 5 4 (0x09 ∷ []) 0 0 ≡ gives (lost 4 (0x09 ∷ []) (walkAt 1 0) (over (walkAt 1 0)))
+refusal-4 : location false 5 4 (0x09 ∷ []) 0 0 ≡ gives (handed (refused 4 (0x09 ∷ [])) (walkAt 1 0) (over (walkAt 1 0)))
 unfolding location
 refusal-4 = refl
 
@@ -286,35 +281,35 @@ unfolding lists
 good-header = refl
 
 refusal-5 : lists (0x08 ∷ 0x00 ∷ 0x00 ∷ 0x00 ∷ 0x04 ∷ 0x00 ∷ 0x04 ∷ 0x00 ∷ 0x00 ∷ 0x00 ∷ 0x00 ∷ 0x00 ∷ [])
-    ≡ refuses 5 (0x04 ∷ [])
+    ≡ refused 5 (0x04 ∷ [])
 unfolding lists
 refusal-5 = refl
 
 refusal-6 : lists (0x08 ∷ 0x00 ∷ 0x00 ∷ 0x00 ∷ 0x05 ∷ 0x00 ∷ 0x03 ∷ 0x00 ∷ 0x00 ∷ 0x00 ∷ 0x00 ∷ 0x00 ∷ [])
-    ≡ refuses 6 (0x03 ∷ [])
+    ≡ refused 6 (0x03 ∷ [])
 unfolding lists
 refusal-6 = refl
 
 refusal-7 : lists (0x08 ∷ 0x00 ∷ 0x00 ∷ 0x00 ∷ 0x05 ∷ 0x00 ∷ 0x04 ∷ 0x01 ∷ 0x00 ∷ 0x00 ∷ 0x00 ∷ 0x00 ∷ [])
-    ≡ refuses 7 (0x01 ∷ [])
+    ≡ refused 7 (0x01 ∷ [])
 unfolding lists
 refusal-7 = refl
 
-refusal-8 : lists (0xf0 ∷ 0xff ∷ 0xff ∷ 0xff ∷ []) ≡ refuses 8 (0xfffffff0 ∷ [])
+refusal-8 : lists (0xf0 ∷ 0xff ∷ 0xff ∷ 0xff ∷ []) ≡ refused 8 (0xfffffff0 ∷ [])
 unfolding lists
 refusal-8 = refl
 
 header-past-the-section : lists (0x08 ∷ 0x00 ∷ 0x00 ∷ 0x00 ∷ 0x05 ∷ 0x00 ∷ 0x04 ∷ 0x00 ∷ 0x00 ∷ 0x00 ∷ 0x00 ∷ [])
-    ≡ refuses 1 []
+    ≡ refused 1 []
 unfolding lists
 header-past-the-section = refl
 
 count-past-the-unit : lists (0x04 ∷ 0x00 ∷ 0x00 ∷ 0x00 ∷ 0x05 ∷ 0x00 ∷ 0x04 ∷ 0x00 ∷ 0x00 ∷ 0x00 ∷ 0x00 ∷ 0x00 ∷ [])
-    ≡ refuses 1 []
+    ≡ refused 1 []
 unfolding lists
 count-past-the-unit = refl
 
-no-header : lists [] ≡ refuses 1 []
+no-header : lists [] ≡ refused 1 []
 unfolding lists
 no-header = refl
 
@@ -323,7 +318,7 @@ lengthAt : List ℕ → Read UnitLength
 unfolding initialLength skip uint little
 lengthAt s = initialLength Little s 0
 
-length-32 : lengthAt (0xef ∷ 0xff ∷ 0xff ∷ 0xff ∷ []) ≡ got (lengthOf 0xffffffef Dwarf32) 4
+length-32 : lengthAt (0xef ∷ 0xff ∷ 0xff ∷ 0xff ∷ []) ≡ gives (got (lengthOf 0xffffffef Dwarf32) 4)
 unfolding lengthAt
 length-32 = refl
 
@@ -332,12 +327,12 @@ unfolding lengthAt
 length-reserved = refl
 
 length-64 : lengthAt (0xff ∷ 0xff ∷ 0xff ∷ 0xff ∷ 0x10 ∷ 0x00 ∷ 0x00 ∷ 0x00 ∷ 0x00 ∷ 0x00 ∷ 0x00 ∷ 0x00 ∷ [])
-    ≡ got (lengthOf 0x10 Dwarf64) 12
+    ≡ gives (got (lengthOf 0x10 Dwarf64) 12)
 unfolding lengthAt
 length-64 = refl
 
 -- row 9: a product or a sum too large, in the address table and in an offset table
-refusal-9 : row 8 0 (2 ^ 61) [] ≡ refuses 9 []
+refusal-9 : row 8 0 (2 ^ 61) [] ≡ refused 9 []
 unfolding row
 refusal-9 = refl
 
@@ -350,28 +345,28 @@ offset-from-base : offset Dwarf32 4 1 (0x00 ∷ 0x00 ∷ 0x00 ∷ 0x00 ∷ 0x08 
 unfolding offset
 offset-from-base = refl
 
-offset-product : offset Dwarf64 0 (2 ^ 61) [] ≡ refuses 9 []
+offset-product : offset Dwarf64 0 (2 ^ 61) [] ≡ refused 9 []
 unfolding offset
 offset-product = refl
 
 offset-sum : offset Dwarf64 1 0 (0x00 ∷ 0xff ∷ 0xff ∷ 0xff ∷ 0xff ∷ 0xff ∷ 0xff ∷ 0xff ∷ 0xff ∷ [])
-    ≡ refuses 9 []
+    ≡ refused 9 []
 unfolding offset
 offset-sum = refl
 
 -- open point 1: a begin is looked up before its end (size 8, no table; the index 2^61 gives 9, the index 0 gives 1)
 lost-begin : rangesIn [] 0 5 8 (0x02 ∷ 0x80 ∷ 0x80 ∷ 0x80 ∷ 0x80 ∷ 0x80 ∷ 0x80 ∷ 0x80 ∷ 0x80 ∷ 0x20 ∷ 0x00 ∷ 0x00 ∷ []) 0 0
-    ≡ gives (lost 9 [] (walkAt 11 0) (over (walkAt 12 0)))
+    ≡ gives (handed (refused 9 []) (walkAt 11 0) (over (walkAt 12 0)))
 unfolding rangesIn
 lost-begin = refl
 
 lost-end : rangesIn [] 0 5 8 (0x02 ∷ 0x00 ∷ 0x80 ∷ 0x80 ∷ 0x80 ∷ 0x80 ∷ 0x80 ∷ 0x80 ∷ 0x80 ∷ 0x80 ∷ 0x20 ∷ 0x00 ∷ []) 0 0
-    ≡ gives (lost 1 [] (walkAt 11 0) (over (walkAt 12 0)))
+    ≡ gives (handed (refused 1 []) (walkAt 11 0) (over (walkAt 12 0)))
 unfolding rangesIn
 lost-end = refl
 
 -- open point 2: base and product are never added
-never-added : row 8 8 (2 ^ 61 - 1) (0x00 ∷ 0x00 ∷ 0x00 ∷ 0x00 ∷ 0x00 ∷ 0x00 ∷ 0x00 ∷ 0x00 ∷ []) ≡ refuses 1 []
+never-added : row 8 8 (2 ^ 61 - 1) (0x00 ∷ 0x00 ∷ 0x00 ∷ 0x00 ∷ 0x00 ∷ 0x00 ∷ 0x00 ∷ 0x00 ∷ []) ≡ refused 1 []
 unfolding row
 never-added = refl
 
@@ -386,22 +381,22 @@ unfolding calls
 end-again = refl
 
 -- open point 6: in a lookup the size is refused last
-size-after-base : row 3 1 0 [] ≡ refuses 1 []
+size-after-base : row 3 1 0 [] ≡ refused 1 []
 unfolding row
 size-after-base = refl
 
-size-last : row 3 0 0 [] ≡ refuses 6 (0x03 ∷ [])
+size-last : row 3 0 0 [] ≡ refused 6 (0x03 ∷ [])
 unfolding row
 size-last = refl
 
 -- open point 7: an empty expression at the section's end
 empty-expression : location false 5 4 (0x05 ∷ 0x00 ∷ []) 0 0
-    ≡ gives (gave (item 0 (2 ^ 64 - 1) (expression 2 0)) (walkAt 2 0) (over (walkAt 2 0)))
+    ≡ gives (handed (gives (item 0 (2 ^ 64 - 1) (expression 2 0))) (walkAt 2 0) (over (walkAt 2 0)))
 unfolding location
 empty-expression = refl
 
 -- open point 9: the last entry is cut at its table, which ends at 9
 cut-entry : entries (0x05 ∷ 0x00 ∷ 0x00 ∷ 0x00 ∷ 0x05 ∷ 0x00 ∷ 0x02 ∷ 0x00 ∷ 0xaa ∷ 0xbb ∷ []) (left 2 8 1)
-    ≡ stops 1 [] (left 2 9 0)
+    ≡ hands (refused 1 []) (left 2 9 0)
 unfolding entries
 cut-entry = refl

@@ -5,7 +5,7 @@ use mathlib.Core.Bool.{false}
 use mathlib.Core.List.{List, [], _∷_}
 use Prim.Native.Nat.{ℕ}
 use lib.ListN.{length, take}
-use Rattle.bytes.specs.Read.{got, gives, refuses}
+use Rattle.bytes.specs.Read.{gives, refused, got}
 use Rattle.bytes.specs.Endianity.{little}
 use Rattle.bytes.specs.Reader.{skip, uint, truncate, partOf, isSize, address, addressSize, initialLength}
 use Rattle.bytes.specs.declared.common.Encoding.{Encoding}
@@ -13,7 +13,7 @@ use Rattle.bytes.specs.declared.common.Format.the-variants.{Dwarf32}
 use Rattle.bytes.specs.declared.endianity.RunTimeEndian.the-variants.{Little}
 use Rattle.tables.specs.Header.{fields, head}
 use Rattle.tables.specs.Lists.{parsed, listsHeader}
-use Rattle.tables.specs.Next.{stops}
+use Rattle.tables.specs.Next.{hands}
 use Rattle.tables.specs.Addr.{nextEntry}
 use Rattle.tables.specs.declared.addr.AddrEntryIter.{AddrEntryIter}
 use Rattle.entries.specs.Forms.{stop}
@@ -21,8 +21,7 @@ use Rattle.entries.specs.Kinds.{rawAt, rawRange, rawLocation}
 use Rattle.entries.specs.declared.RawRngListEntry.the-variants as rng
 use Rattle.entries.specs.declared.RawLocListEntry.the-variants as loc
 use Rattle.lists.specs.Open.{walkAt, opened}
-use Rattle.lists.specs.Walk as lists
-use Rattle.lists.specs.Walk.{Trace, item, over, gave, lost, next, nextRaw, convertRaw, nextRange, nextRawRange, convertedRange, nextLocation, nextRawLocation, convertedLocation}
+use Rattle.lists.specs.Walk.{Trace, item, over, next, nextRaw, convertRaw, nextRange, nextRawRange, convertedRange, nextLocation, nextRawLocation, convertedLocation, handed, comes}
 use Rattle.coverage.specs.Covered.{source, rangeList, yieldedIn, yieldedOf, coverageOf}
 use Rattle.coverage.specs.Kept.{rangesOf, padded, keptAs, lawfulFrom, lawfulSheet}
 use Rattle.coverage.specs.Told.{made}
@@ -36,36 +35,36 @@ enc size = record { «address_size» = size; format = Dwarf32; version = 5 }
 
 -- address size 3 is refused with 6 and the size: an opening before its offset is looked at; a call on a walk before its
 -- bytes are, and the walk is emptied; a conversion leaves the walk as it was
-opening-size : opened (enc 3) [] 1 0 ≡ refuses 6 (3 ∷ [])
+opening-size : opened (enc 3) [] 1 0 ≡ refused 6 (3 ∷ [])
 unfolding opened isSize
 opening-size = refl
 
 abbrev two : List ℕ
 two = 0x08 ∷ 0x09 ∷ []
 
-range-size : nextRange (enc 3) Little two [] (record { 0 = 0 }) (walkAt 0 7) ≡ stops 6 (3 ∷ []) (walkAt 2 7)
+range-size : nextRange (enc 3) Little two [] (record { 0 = 0 }) (walkAt 0 7) ≡ hands (refused 6 (3 ∷ [])) (walkAt 2 7)
 unfolding next isSize
 range-size = refl
 
-location-size : nextLocation false (enc 3) Little two [] (record { 0 = 0 }) (walkAt 0 7) ≡ stops 6 (3 ∷ []) (walkAt 2 7)
+location-size : nextLocation false (enc 3) Little two [] (record { 0 = 0 }) (walkAt 0 7) ≡ hands (refused 6 (3 ∷ [])) (walkAt 2 7)
 unfolding next isSize
 location-size = refl
 
-raw-range-size : nextRawRange (enc 3) Little two (walkAt 0 7) ≡ stops 6 (3 ∷ []) (walkAt 2 7)
+raw-range-size : nextRawRange (enc 3) Little two (walkAt 0 7) ≡ hands (refused 6 (3 ∷ [])) (walkAt 2 7)
 unfolding nextRaw isSize
 raw-range-size = refl
 
-raw-location-size : nextRawLocation false (enc 3) Little two (walkAt 0 7) ≡ stops 6 (3 ∷ []) (walkAt 2 7)
+raw-location-size : nextRawLocation false (enc 3) Little two (walkAt 0 7) ≡ hands (refused 6 (3 ∷ [])) (walkAt 2 7)
 unfolding nextRaw isSize
 raw-location-size = refl
 
 converted-range-size : convertedRange (enc 3) Little [] (record { 0 = 0 }) (walkAt 1 7) (rng.BaseAddress 9)
-    ≡ lists.refuses 6 (3 ∷ []) (walkAt 1 7)
+    ≡ comes (refused 6 (3 ∷ [])) (walkAt 1 7)
 unfolding convertRaw isSize
 converted-range-size = refl
 
 converted-location-size : convertedLocation (enc 3) Little [] (record { 0 = 0 }) (walkAt 1 7) (loc.BaseAddress 9)
-    ≡ lists.refuses 6 (3 ∷ []) (walkAt 1 7)
+    ≡ comes (refused 6 (3 ∷ [])) (walkAt 1 7)
 unfolding convertRaw isSize
 converted-location-size = refl
 
@@ -73,16 +72,16 @@ converted-location-size = refl
 abbrev left : ℕ → ℕ → AddrEntryIter
 left at len = record { entries = record { offset = at; len = len }; encoding = enc 3 }
 
-entry-size : nextEntry Little two (left 0 2) ≡ stops 6 (3 ∷ []) (left 2 0)
+entry-size : nextEntry Little two (left 0 2) ≡ hands (refused 6 (3 ∷ [])) (left 2 0)
 unfolding nextEntry partOf address isSize
 entry-size = refl
 
 -- at a place that is the section's length a list ends, there
-range-at-the-end : rawRange (enc 4) Little (0x08 ∷ []) 1 ≡ got stop 1
+range-at-the-end : rawRange (enc 4) Little (0x08 ∷ []) 1 ≡ gives (got stop 1)
 unfolding rawAt
 range-at-the-end = refl
 
-location-at-the-end : rawLocation false (enc 4) Little (0x09 ∷ []) 1 ≡ got stop 1
+location-at-the-end : rawLocation false (enc 4) Little (0x09 ∷ []) 1 ≡ gives (got stop 1)
 unfolding rawAt
 location-at-the-end = refl
 
@@ -99,7 +98,7 @@ header-at-1 = refl
 
 -- a refused call leaves the output as it was; one that fits writes its bytes and leaves the others; one that does not fit is
 -- refused with 11
-written-refused : written (refuses 3 (0x08 ∷ [])) (0x01 ∷ []) ≡ output (refuses 3 (0x08 ∷ [])) (0x01 ∷ [])
+written-refused : written (refused 3 (0x08 ∷ [])) (0x01 ∷ []) ≡ output (refused 3 (0x08 ∷ [])) (0x01 ∷ [])
 unfolding written
 written-refused = refl
 
@@ -107,7 +106,7 @@ written-fits : written (gives (0x00 ∷ [])) (0x01 ∷ 0x02 ∷ []) ≡ output (
 unfolding written
 written-fits = refl
 
-written-no-space : written (gives (0x07 ∷ 0x00 ∷ [])) (0x01 ∷ []) ≡ output (refuses 11 []) (0x01 ∷ [])
+written-no-space : written (gives (0x07 ∷ 0x00 ∷ [])) (0x01 ∷ []) ≡ output (refused 11 []) (0x01 ∷ [])
 unfolding written
 written-no-space = refl
 
@@ -132,7 +131,7 @@ unfolding keptAs padded
 one-end = refl
 
 abbrev none : Coverage
-none = made (refuses 3 (0x08 ∷ [])) .coverage
+none = made (refused 3 (0x08 ∷ [])) .coverage
 
 none-counted : none .n ≡ 0
 unfolding keptAs
@@ -142,23 +141,23 @@ none-begin : take 3 (none .begins) ≡ 0 ∷ 0 ∷ 0 ∷ []
 unfolding keptAs padded
 none-begin = refl
 
-none-verdict : made (refuses 3 (0x08 ∷ [])) .verdict ≡ refuses 3 (0x08 ∷ [])
+none-verdict : made (refused 3 (0x08 ∷ [])) .verdict ≡ refused 3 (0x08 ∷ [])
 none-verdict = refl
 
 -- a range and then refusal 3: without room for the range refusal 10 comes first, with room for it refusal 3
 abbrev refusedAfter : Trace Unit
-refusedAfter = gave (item 0x10 0x20 tt) (walkAt 9 0) (lost 3 (0x08 ∷ []) (walkAt 10 0) (over (walkAt 10 0)))
+refusedAfter = handed (gives (item 0x10 0x20 tt)) (walkAt 9 0) (handed (refused 3 (0x08 ∷ [])) (walkAt 10 0) (over (walkAt 10 0)))
 
-no-room : yieldedIn 0 refusedAfter ≡ refuses 10 []
+no-room : yieldedIn 0 refusedAfter ≡ refused 10 []
 unfolding yieldedIn
 no-room = refl
 
-room-for-one : yieldedIn 1 refusedAfter ≡ refuses 3 (0x08 ∷ [])
+room-for-one : yieldedIn 1 refusedAfter ≡ refused 3 (0x08 ∷ [])
 unfolding yieldedIn
 room-for-one = refl
 
 -- an opening's refusal is the answer of the canonical list too
-not-opened : canonicalOf (source rangeList (enc 4) Little [] 1 0 [] (record { 0 = 0 })) ≡ refuses 1 []
+not-opened : canonicalOf (source rangeList (enc 4) Little [] 1 0 [] (record { 0 = 0 })) ≡ refused 1 []
 unfolding canonicalOf coverageOf yieldedOf opened isSize
 not-opened = refl
 
@@ -166,10 +165,10 @@ not-opened = refl
 abbrev empty : Coverage
 empty = record { n = 1; begins = 0x10 ∷ []; ends = 0x10 ∷ [] }
 
-canonical-unlawful : canonicalKept empty ≡ refuses 12 []
+canonical-unlawful : canonicalKept empty ≡ refused 12 []
 unfolding canonicalKept lawfulSheet rangesOf lawfulFrom
 canonical-unlawful = refl
 
-sheet-unlawful : sheetKept empty ≡ refuses 12 []
+sheet-unlawful : sheetKept empty ≡ refused 12 []
 unfolding sheetKept lawfulSheet rangesOf lawfulFrom
 sheet-unlawful = refl

@@ -3,37 +3,37 @@ use Prim.Native.Nat.{ℕ}
 use mathlib.Core.List.{List}
 use lib.Dec.{ltb, eqb}
 use lib.ListN.{getD}
-use Rattle.bytes.specs.Read.{Result, gives, refuses, pick}
+use Rattle.bytes.specs.Read.{Result, gives, refused, pick}
 use Rattle.bytes.specs.Error.{number, values}
 use Rattle.bytes.specs.declared.common.DebugAddrBase.{DebugAddrBase}
 use Rattle.bytes.specs.declared.common.Encoding.{Encoding}
 use Rattle.bytes.specs.declared.endianity.RunTimeEndian.{RunTimeEndian}
 use Rattle.bytes.specs.declared.error.Error.the-variants.{UnknownRangeListsEntry, UnknownLocListsEntry}
-use Rattle.tables.specs.Next.{Next, yields, ends, stops}
+use Rattle.tables.specs.Next.{Next, ends, hands}
 use Rattle.entries.specs.Forms.{addrIndex}
 use Rattle.entries.specs.declared.Expression.{Expression}
 use Rattle.entries.specs.declared.RawRngListEntry.{RawRngListEntry}
 use Rattle.entries.specs.declared.RawRngListEntry.the-variants as rng
 use Rattle.entries.specs.declared.RawLocListEntry.{RawLocListEntry}
 use Rattle.entries.specs.declared.RawLocListEntry.the-variants as loc
-use Rattle.lists.specs.Walk.{Item, item, Outcome, gives as outcomeGives, nothing, refuses as outcomeRefuses, convertedRange, convertedLocation}
+use Rattle.lists.specs.Walk.{Item, item, Outcome, nothing, convertedRange, convertedLocation, comes}
 use Rattle.lists.specs.declared.Walk.{Walk}
-use Rattle.lookups.specs.Lookup.{Found, found, notThere, refused}
+use Rattle.lookups.specs.Lookup.{Found, found, notThere}
 use Rattle.ffi_words.specs.Words.{four, endFour, refusedFour, eight, endEight, refusedEight, walkOf}
 
 abbrev pub opening : Result Walk → List ℕ
 opening (gives w) = four 0 (w .at) (w .«base_address») 0 0
-opening (refuses n vs) = refusedFour 0 0 n vs
+opening (refused n vs) = refusedFour 0 0 n vs
 
 abbrev pub rangeNext : Next (Item Unit) Walk → List ℕ
-rangeNext (yields (item b e u) w) = four 0 (w .at) (w .«base_address») b e
+rangeNext (hands (gives (item b e u)) w) = four 0 (w .at) (w .«base_address») b e
 rangeNext (ends w) = endFour (w .at) (w .«base_address»)
-rangeNext (stops n vs w) = refusedFour (w .at) (w .«base_address») n vs
+rangeNext (hands (refused n vs) w) = refusedFour (w .at) (w .«base_address») n vs
 
 abbrev pub locationNext : Next (Item Expression) Walk → List ℕ
-locationNext (yields (item b e x) w) = eight 0 (w .at) (w .«base_address») b e (x .offset) (x .len) 0 0
+locationNext (hands (gives (item b e x)) w) = eight 0 (w .at) (w .«base_address») b e (x .offset) (x .len) 0 0
 locationNext (ends w) = endEight (w .at) (w .«base_address»)
-locationNext (stops n vs w) = refusedEight (w .at) (w .«base_address») n vs
+locationNext (hands (refused n vs) w) = refusedEight (w .at) (w .«base_address») n vs
 
 -- a raw entry: its kind's code, 0 for a bare pair, its numbers, and its expression
 abbrev pub rangeEntry : ℕ → ℕ → RawRngListEntry → List ℕ
@@ -58,14 +58,14 @@ locationEntry at base (loc.StartEnd b e x) = eight 0 at base 7 b e (x .offset) (
 locationEntry at base (loc.StartLength b n x) = eight 0 at base 8 b n (x .offset) (x .len) 0
 
 abbrev pub rawRangeNext : Next RawRngListEntry Walk → List ℕ
-rawRangeNext (yields e w) = rangeEntry (w .at) (w .«base_address») e
+rawRangeNext (hands (gives e) w) = rangeEntry (w .at) (w .«base_address») e
 rawRangeNext (ends w) = endEight (w .at) (w .«base_address»)
-rawRangeNext (stops n vs w) = refusedEight (w .at) (w .«base_address») n vs
+rawRangeNext (hands (refused n vs) w) = refusedEight (w .at) (w .«base_address») n vs
 
 abbrev pub rawLocationNext : Next RawLocListEntry Walk → List ℕ
-rawLocationNext (yields e w) = locationEntry (w .at) (w .«base_address») e
+rawLocationNext (hands (gives e) w) = locationEntry (w .at) (w .«base_address») e
 rawLocationNext (ends w) = endEight (w .at) (w .«base_address»)
-rawLocationNext (stops n vs w) = refusedEight (w .at) (w .«base_address») n vs
+rawLocationNext (hands (refused n vs) w) = refusedEight (w .at) (w .«base_address») n vs
 
 -- the entry that a caller hands in the same way, its code not above the last one
 unfoldable pub rangeOf : ℕ → ℕ → ℕ → RawRngListEntry
@@ -92,12 +92,12 @@ locationOf code a b x =
 -- a code above the last one is refused as an unknown entry
 unfoldable pub convertRange : Encoding → RunTimeEndian → List ℕ → DebugAddrBase → Walk → ℕ → ℕ → ℕ → Outcome Unit
 convertRange encoding endian table tableBase w code a b =
-    pick (ltb 7 code) (outcomeRefuses (number (UnknownRangeListsEntry code)) (values (UnknownRangeListsEntry code)) w)
+    pick (ltb 7 code) (comes (refused (number (UnknownRangeListsEntry code)) (values (UnknownRangeListsEntry code))) w)
     (convertedRange encoding endian table tableBase w (rangeOf code a b))
 
 unfoldable pub convertLocation : Encoding → RunTimeEndian → List ℕ → DebugAddrBase → Walk → ℕ → ℕ → ℕ → Expression → Outcome Expression
 convertLocation encoding endian table tableBase w code a b x =
-    pick (ltb 8 code) (outcomeRefuses (number (UnknownLocListsEntry code)) (values (UnknownLocListsEntry code)) w)
+    pick (ltb 8 code) (comes (refused (number (UnknownLocListsEntry code)) (values (UnknownLocListsEntry code))) w)
     (convertedLocation encoding endian table tableBase w (locationOf code a b x))
 
 -- the walk and the entry in the words
@@ -110,21 +110,21 @@ convertLocationWords encoding endian table tableBase io =
     convertLocation encoding endian table tableBase (walkOf io) (getD io 2 0) (getD io 3 0) (getD io 4 0) (record { offset = getD io 5 0; len = getD io 6 0 })
 
 abbrev pub rangeOutcome : Outcome Unit → List ℕ
-rangeOutcome (outcomeGives (item b e u) w) = eight 0 (w .at) (w .«base_address») b e 0 0 0 0
+rangeOutcome (comes (gives (item b e u)) w) = eight 0 (w .at) (w .«base_address») b e 0 0 0 0
 rangeOutcome (nothing w) = endEight (w .at) (w .«base_address»)
-rangeOutcome (outcomeRefuses n vs w) = refusedEight (w .at) (w .«base_address») n vs
+rangeOutcome (comes (refused n vs) w) = refusedEight (w .at) (w .«base_address») n vs
 
 abbrev pub locationOutcome : Outcome Expression → List ℕ
-locationOutcome (outcomeGives (item b e x) w) = eight 0 (w .at) (w .«base_address») b e (x .offset) (x .len) 0 0
+locationOutcome (comes (gives (item b e x)) w) = eight 0 (w .at) (w .«base_address») b e (x .offset) (x .len) 0 0
 locationOutcome (nothing w) = endEight (w .at) (w .«base_address»)
-locationOutcome (outcomeRefuses n vs w) = refusedEight (w .at) (w .«base_address») n vs
+locationOutcome (comes (refused n vs) w) = refusedEight (w .at) (w .«base_address») n vs
 
-abbrev pub rangeFound : Found Unit → List ℕ
-rangeFound (found (item b e u)) = four 0 0 0 b e
-rangeFound notThere = endFour 0 0
+abbrev pub rangeFound : Result (Found Unit) → List ℕ
+rangeFound (gives (found (item b e u))) = four 0 0 0 b e
+rangeFound (gives notThere) = endFour 0 0
 rangeFound (refused n vs) = refusedFour 0 0 n vs
 
-abbrev pub locationFound : Found Expression → List ℕ
-locationFound (found (item b e x)) = eight 0 0 0 b e (x .offset) (x .len) 0 0
-locationFound notThere = endEight 0 0
+abbrev pub locationFound : Result (Found Expression) → List ℕ
+locationFound (gives (found (item b e x))) = eight 0 0 0 b e (x .offset) (x .len) 0 0
+locationFound (gives notThere) = endEight 0 0
 locationFound (refused n vs) = refusedEight 0 0 n vs

@@ -3,7 +3,7 @@ use Prim.Native.Nat.{ℕ}
 use mathlib.Core.Bool.{Bool, true, false}
 use mathlib.Core.List.{List, [], _∷_}
 use lib.ListN.{getD}
-use Rattle.bytes.specs.Read.{Read, got, refused, Result, gives, refuses}
+use Rattle.bytes.specs.Read.{Result, gives, refused, got, Read}
 use Rattle.bytes.specs.declared.Span.{Span}
 use Rattle.bytes.specs.declared.UnitLength.{UnitLength}
 use Rattle.bytes.specs.declared.common.DwarfFileType.{DwarfFileType}
@@ -74,22 +74,22 @@ refusedEight a b n vs = eight 2 a b n (valueOf vs) 0 0 0 0
 
 -- reads: the place after, and what was read
 abbrev pub numberRead : Read ℕ → List ℕ
-numberRead (got v c) = four 0 c 0 v 0
+numberRead (gives (got v c)) = four 0 c 0 v 0
 numberRead (refused n vs) = refusedFour 0 0 n vs
 
 abbrev pub placeRead : Read Unit → List ℕ
-placeRead (got u c) = four 0 c 0 0 0
+placeRead (gives (got u c)) = four 0 c 0 0 0
 placeRead (refused n vs) = refusedFour 0 0 n vs
 
 abbrev pub spanRead : Read Span → List ℕ
-spanRead (got x c) = four 0 c 0 (x .offset) (x .len)
+spanRead (gives (got x c)) = four 0 c 0 (x .offset) (x .len)
 spanRead (refused n vs) = refusedFour 0 0 n vs
 
 abbrev pub lengthRead : Read UnitLength → List ℕ
-lengthRead (got u c) = four 0 c 0 (u .length) (dwarf64Of (u .format))
+lengthRead (gives (got u c)) = four 0 c 0 (u .length) (dwarf64Of (u .format))
 lengthRead (refused n vs) = refusedFour 0 0 n vs
 
 -- a number that leaves no place behind
 abbrev pub numberResult : Result ℕ → List ℕ
 numberResult (gives v) = four 0 0 0 v 0
-numberResult (refuses n vs) = refusedFour 0 0 n vs
+numberResult (refused n vs) = refusedFour 0 0 n vs

@@ -9,7 +9,7 @@ use lib.ListN.{length, take, drop}
 use lib.Seq.{sets, take-at}
 use borrow.Author.Tests.{le-leb, lt-leb, eq-eqb, ne-eqb}
 use Rattle.bytes.specs.Read.{gives}
-use Rattle.bytes.specs.Error.{number, values, refusing}
+use Rattle.bytes.specs.Error.{number, values, refusal}
 use Rattle.bytes.specs.declared.error.Error.the-variants.{NoSpace, BadSheet}
 use Rattle.coverage.specs.Ranges.{limit}
 use Rattle.coverage.specs.Kept.{paired, begins, ends, rangesOf, padded, keptAs, lawfulFrom, lawfulSheet}
@@ -27,11 +27,11 @@ use Rattle.sheets.proofs.Getting.{length-in}
 
 -- what the sheet call writes is the sheet of the coverage handed in, or it is refused
 module _ (c : Coverage) (l : List ℕ) where
-  pub sheet-refused : lawfulSheet c ≡ false → output (refusing BadSheet) l ≡ written (sheetKept c) l
+  pub sheet-refused : lawfulSheet c ≡ false → output (refusal BadSheet) l ≡ written (sheetKept c) l
   sheet-refused e = rw (no-sheet-kept c e) (sym (written-refused (number BadSheet) (values BadSheet) l))
 
   module _ (law : lawfulSheet c ≡ true) (lb : length (c .begins) ≡ limit) (le : length (c .ends) ≡ limit) where
-    pub sheet-short : length l < 4 + 16 * c .n → output (refusing NoSpace) l ≡ written (sheetKept c) l
+    pub sheet-short : length l < 4 + 16 * c .n → output (refusal NoSpace) l ≡ written (sheetKept c) l
     unfolding rangesOf
     sheet-short h =
         let e = sheet-length (c .begins) (c .ends) (c .n) (lawful-few c law) lb le in
@@ -46,25 +46,25 @@ module _ (c : Coverage) (l : List ℕ) where
 
 -- what is no sheet is refused
 module _ (bs : List ℕ) where
-  refused-by : isSheet (countIn bs) bs ≡ false → refusing BadSheet ≡ sheetRanges bs
+  refused-by : isSheet (countIn bs) bs ≡ false → refusal BadSheet ≡ sheetRanges bs
   unfolding sheetRanges
   refused-by e = rw e
 
-  pub no-head : length bs < 4 → refusing BadSheet ≡ sheetRanges bs
+  pub no-head : length bs < 4 → refusal BadSheet ≡ sheetRanges bs
   unfolding isSheet
   no-head h =
       refused-by (rw (ne-eqb (length bs) (4 + 16 * countIn bs) (λ e. omega arith), and-false (leb (countIn bs) limit && eqb (widthIn bs) 8)))
 
-  pub other-width : {w : ℕ} → w ≡ widthIn bs → (w ≡ 8 → ⊥) → refusing BadSheet ≡ sheetRanges bs
+  pub other-width : {w : ℕ} → w ≡ widthIn bs → (w ≡ 8 → ⊥) → refusal BadSheet ≡ sheetRanges bs
   unfolding isSheet
   other-width width h = refused-by (rw (ne-eqb (widthIn bs) 8 (λ e. h (width ∙ e)), and-false (leb (countIn bs) limit)))
 
   module _ {n : ℕ} (count : n ≡ countIn bs) where
-    pub too-many : limit < n → refusing BadSheet ≡ sheetRanges bs
+    pub too-many : limit < n → refusal BadSheet ≡ sheetRanges bs
     unfolding isSheet
     too-many h = let k : limit < countIn bs = omega arith in refused-by (rw (lt-leb (countIn bs) limit k))
 
-    pub other-length : (length bs ≡ 4 + 16 * n → ⊥) → refusing BadSheet ≡ sheetRanges bs
+    pub other-length : (length bs ≡ 4 + 16 * n → ⊥) → refusal BadSheet ≡ sheetRanges bs
     unfolding isSheet
     other-length h =
         let k : length bs ≡ 4 + 16 * countIn bs → ⊥ = λ e. h (rw count e) in
@@ -121,7 +121,7 @@ module _ {bs : List ℕ} {n : ℕ} {b e : List ℕ} (t : Headed bs n b e) where
       head-read bs (omega (arith, t .count, t .few)) (t .wide) (t .long ∙ ap (λ (k : ℕ). 4 + 16 * k) (t .count))
       ∙ ap lawfulSheet (sym same-read)
 
-  pub not-lawful : lawfulSheet (arrays n b e) ≡ false → refusing BadSheet ≡ sheetRanges bs
+  pub not-lawful : lawfulSheet (arrays n b e) ≡ false → refusal BadSheet ≡ sheetRanges bs
   not-lawful h = refused-by bs (decides ∙ h)
 
   pub read-back : lawfulSheet (arrays n b e) ≡ true → answer (gives tt) (arrays n b e) ≡ made (sheetRanges bs)

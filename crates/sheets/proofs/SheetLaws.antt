@@ -9,9 +9,9 @@ use lib.Dec.{leb, eqb}
 use lib.ListN.{length, take, drop, getD, length-append, length-take, length-drop, length-map, List·getD-eq-default}
 use lib.Seq.{length-take-le, take-at, drop-at, drop-drop, take-add, take-all, getD-take, getD-drop}
 use borrow.Author.Tests.{le-leb, eq-eqb, leb-true, eqb-true}
-use Rattle.bytes.specs.Read.{gives, refuses, pick}
+use Rattle.bytes.specs.Read.{gives, refused, pick}
 use Rattle.bytes.specs.Endianity.{little}
-use Rattle.bytes.specs.Error.{refusing}
+use Rattle.bytes.specs.Error.{refusal}
 use Rattle.bytes.specs.declared.error.Error.the-variants.{BadSheet}
 use Rattle.coverage.specs.Ranges.{Range, limit}
 use Rattle.coverage.specs.Kept.{paired, begins, ends, rangesOf, lawfulFrom, lawfulSheet}
@@ -99,7 +99,7 @@ module _ (rs : List Range) (l : Lawful rs) where
   pub sheet-back : sheetRanges (sheetBytes rs) ≡ gives rs
   unfolding sheetRanges
   sheet-back =
-      ap (λ (n : ℕ). pick (isSheet n (sheetBytes rs)) (gives (rangesIn n (sheetBytes rs))) (refusing BadSheet)) count-back
+      ap (λ (n : ℕ). pick (isSheet n (sheetBytes rs)) (gives (rangesIn n (sheetBytes rs))) (refusal BadSheet)) count-back
       ∙ rw (is-sheet, ranges-back)
 
 -- no two lists of lawful ranges have one sheet
@@ -126,7 +126,7 @@ module _ (c : Coverage) where
   unfolding sheetKept
   sheet-kept h = simp h
 
-  pub no-sheet-kept : lawfulSheet c ≡ false → sheetKept c ≡ refusing BadSheet
+  pub no-sheet-kept : lawfulSheet c ≡ false → sheetKept c ≡ refusal BadSheet
   unfolding sheetKept
   no-sheet-kept h = simp h
 
@@ -216,7 +216,7 @@ sheet-given : (bs : List ℕ) {rs : List Range} → sheetRanges bs ≡ gives rs 
 unfolding sheetRanges
 sheet-given bs {rs} e = chosen (isSheet (countIn bs) bs) (rangesIn (countIn bs) bs) _ _ e
   where
-    chosen : (t : Bool) (l : List Range) (n : ℕ) (vs : List ℕ) → pick t (gives l) (refuses n vs) ≡ gives rs → (t ≡ true) × (l ≡ rs)
+    chosen : (t : Bool) (l : List Range) (n : ℕ) (vs : List ℕ) → pick t (gives l) (refused n vs) ≡ gives rs → (t ≡ true) × (l ≡ rs)
     chosen true l n vs e = (refl, cc)
     chosen false l n vs e = let z : _≡_ {A = ℕ} 0 1 = cc in absurd (omega arith)
 

@@ -5,7 +5,7 @@ use Prim.Native.Nat.{ℕ, zero, suc, _+_, _*_}
 use lib.Dec.{leb, eqb}
 use lib.ListN.{length, take, drop}
 use Rattle.bytes.specs.Read.{Result, gives, pick}
-use Rattle.bytes.specs.Error.{refusing}
+use Rattle.bytes.specs.Error.{refusal}
 use Rattle.bytes.specs.Endianity.{little}
 use Rattle.bytes.specs.declared.error.Error.the-variants.{BadSheet}
 use Rattle.coverage.specs.Ranges.{Range, limit}
@@ -24,7 +24,7 @@ sheetBytes rs = littleBytes 2 (length rs) ++ littleBytes 2 8 ++ addressBytes (be
 
 -- the sheet of a coverage handed in; one that makes no lawful sheet is refused (document 01, "Coverage")
 unfoldable pub sheetKept : Coverage → Result (List ℕ)
-sheetKept c = pick (lawfulSheet c) (gives (sheetBytes (rangesOf c))) (refusing BadSheet)
+sheetKept c = pick (lawfulSheet c) (gives (sheetBytes (rangesOf c))) (refusal BadSheet)
 
 -- n addresses from the front of bytes
 unfoldable pub addressesIn : ℕ → List ℕ → List ℕ
@@ -52,4 +52,4 @@ isSheet n bs = leb n limit && eqb (widthIn bs) 8 && eqb (length bs) (sheetLength
 
 -- the ranges of a sheet; what is no sheet is refused (document 01, refusal 12)
 unfoldable pub sheetRanges : List ℕ → Result (List Range)
-sheetRanges bs = pick (isSheet (countIn bs) bs) (gives (rangesIn (countIn bs) bs)) (refusing BadSheet)
+sheetRanges bs = pick (isSheet (countIn bs) bs) (gives (rangesIn (countIn bs) bs)) (refusal BadSheet)

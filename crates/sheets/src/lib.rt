@@ -16,7 +16,7 @@ ghost use Prim.Native.Nat.{_+_, _*_, _≤_};
 ghost use lib.ListN.{length, take, drop};
 ghost use lib.Seq.{sets};
 ghost use Rattle.bytes.specs.Endianity.{little};
-ghost use Rattle.bytes.specs.Error.{refusing};
+ghost use Rattle.bytes.specs.Error.{refusal};
 ghost use Rattle.coverage.specs.Ranges.{limit};
 ghost use Rattle.coverage.specs.Kept.{firsts, padded};
 ghost use Rattle.sheets.specs.Sheet.{addressBytes, sheetBytes, sheetKept, addressesIn, sheetRanges};
@@ -132,7 +132,7 @@ fn addresses(bytes: &[u8], at: usize, n: usize) -> [u64; LIMIT]
 
 // 12, with the empty coverage.
 fn bad_sheet() -> Made
-    ensures { λ r. ⌜ toldMade r ≡ made (refusing Error.BadSheet) ⌝ }
+    ensures { λ r. ⌜ toldMade r ≡ made (refusal Error.BadSheet) ⌝ }
 {
     Made {
         verdict: Verdict::Refused(Error::BadSheet),
