@@ -1,6 +1,5 @@
 -- What a raw reader's call answers, and the code's answers told so.
 use Prim.Native.Nat.{ℕ}
-use mathlib.Core.List.{List}
 use Rattle.bytes.specs.Read.{Result, gives, refused, got, Read}
 use Rattle.bytes.specs.Error.{refusal}
 use Rattle.entries.specs.Forms.{Raw, stop, entry}

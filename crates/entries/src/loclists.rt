@@ -1,5 +1,6 @@
 // Location list entries (DWARF 5, 2.6.2 and 7.7.3; DWARF 4, 2.6.2; GNU split lists up to version 4).
 use super::LocationStep;
+use super::constants;
 use super::raw::Head;
 use super::raw::passed;
 use bytes::Num;
@@ -41,7 +42,7 @@ fn startx_length(part: &[u8], at: usize, encoding: Encoding, endian: RunTimeEndi
     let Num::Got(b, c1) = r1 else {
         return passed(r1);
     };
-    Head::Bounds(3, a, b, c1)
+    Head::Bounds(constants::DW_LLE_startx_length, a, b, c1)
 }
 
 // The head of an entry by its kind. Each kind reads its own operands: where the answers of two readers meet before they
@@ -55,26 +56,31 @@ pub(crate) fn coded_head(part: &[u8], encoding: Encoding, endian: RunTimeEndian)
         return passed(r);
     };
     match code {
-        0 => Head::End,
-        1 => {
+        constants::DW_LLE_end_of_list => Head::End,
+        constants::DW_LLE_base_addressx => {
             let r1 = bytes::leb128::unsigned(part, c);
             let Num::Got(a, c1) = r1 else {
                 return passed(r1);
             };
             Head::BaseAddressx(a, c1)
         }
-        2 => number_pair(part, c, 2),
-        3 => startx_length(part, c, encoding, endian),
-        4 => number_pair(part, c, 4),
-        5 => Head::Bounds(5, 0, 0, c),
-        6 => {
+        constants::DW_LLE_startx_endx => number_pair(part, c, constants::DW_LLE_startx_endx),
+        constants::DW_LLE_startx_length => startx_length(part, c, encoding, endian),
+        constants::DW_LLE_offset_pair => number_pair(part, c, constants::DW_LLE_offset_pair),
+        constants::DW_LLE_default_location => Head::Bounds(
+            constants::DW_LLE_default_location,
+            0,
+            0,
+            c,
+        ),
+        constants::DW_LLE_base_address => {
             let r1 = bytes::reader::read_address(part, c, size, endian);
             let Num::Got(a, c1) = r1 else {
                 return passed(r1);
             };
             Head::BaseAddress(a, c1)
         }
-        7 => {
+        constants::DW_LLE_start_end => {
             let r1 = bytes::reader::read_address(part, c, size, endian);
             let Num::Got(a, c1) = r1 else {
                 return passed(r1);
@@ -83,9 +89,9 @@ pub(crate) fn coded_head(part: &[u8], encoding: Encoding, endian: RunTimeEndian)
             let Num::Got(b, c2) = r2 else {
                 return passed(r2);
             };
-            Head::Bounds(7, a, b, c2)
+            Head::Bounds(constants::DW_LLE_start_end, a, b, c2)
         }
-        8 => {
+        constants::DW_LLE_start_length => {
             let r1 = bytes::reader::read_address(part, c, size, endian);
             let Num::Got(a, c1) = r1 else {
                 return passed(r1);
@@ -94,7 +100,7 @@ pub(crate) fn coded_head(part: &[u8], encoding: Encoding, endian: RunTimeEndian)
             let Num::Got(b, c2) = r2 else {
                 return passed(r2);
             };
-            Head::Bounds(8, a, b, c2)
+            Head::Bounds(constants::DW_LLE_start_length, a, b, c2)
         }
         _ => Head::Refused(Error::UnknownLocListsEntry(code)),
     }

@@ -4,6 +4,7 @@ use super::Expression;
 use super::LocationStep;
 use super::RawLocListEntry;
 use super::RawRngListEntry;
+use super::constants;
 use super::operands::ExpressionAnswer;
 use bytes::Num;
 use bytes::common::DebugAddrIndex;
@@ -69,7 +70,7 @@ fn bare_head(part: &[u8], encoding: Encoding, endian: RunTimeEndian) -> Head
     if begin == bytes::address::ones_sized(size) {
         return Head::BaseAddress(end, c1);
     }
-    Head::Bounds(0, begin, end, c1)
+    Head::Bounds(constants::ADDRESS_OR_OFFSET_PAIR, begin, end, c1)
 }
 
 // Whether entries have kinds: in split lists always, else from version 5 on.
@@ -97,12 +98,20 @@ fn located(code: u64, a: u64, b: u64, expression: Expression) -> RawLocListEntry
     ensures { λ r. ⌜ r ≡ locatedAs code a b expression ⌝ }
 {
     match code {
-        0 => RawLocListEntry::AddressOrOffsetPair(a, b, expression),
-        2 => RawLocListEntry::StartxEndx(DebugAddrIndex(a), DebugAddrIndex(b), expression),
-        3 => RawLocListEntry::StartxLength(DebugAddrIndex(a), b, expression),
-        4 => RawLocListEntry::OffsetPair(a, b, expression),
-        5 => RawLocListEntry::DefaultLocation(expression),
-        7 => RawLocListEntry::StartEnd(a, b, expression),
+        constants::ADDRESS_OR_OFFSET_PAIR => RawLocListEntry::AddressOrOffsetPair(a, b, expression),
+        constants::DW_LLE_startx_endx => RawLocListEntry::StartxEndx(
+            DebugAddrIndex(a),
+            DebugAddrIndex(b),
+            expression,
+        ),
+        constants::DW_LLE_startx_length => RawLocListEntry::StartxLength(
+            DebugAddrIndex(a),
+            b,
+            expression,
+        ),
+        constants::DW_LLE_offset_pair => RawLocListEntry::OffsetPair(a, b, expression),
+        constants::DW_LLE_default_location => RawLocListEntry::DefaultLocation(expression),
+        constants::DW_LLE_start_end => RawLocListEntry::StartEnd(a, b, expression),
         _ => RawLocListEntry::StartLength(a, b, expression),
     }
 }

@@ -3,6 +3,7 @@ use super::Expression;
 use super::LocationStep;
 use super::RangeStep;
 use super::RawLocListEntry;
+use super::constants;
 use bytes::Num;
 use bytes::common::DebugAddrIndex;
 use bytes::common::Encoding;
@@ -46,8 +47,8 @@ pub(crate) fn coded_range(
         return passed(r);
     };
     match code {
-        0 => LocationStep::End,
-        1 => {
+        constants::DW_RLE_end_of_list => LocationStep::End,
+        constants::DW_RLE_base_addressx => {
             let r1 = bytes::leb128::unsigned(part, c);
             let Num::Got(addr, c1) = r1 else {
                 return passed(r1);
@@ -57,7 +58,7 @@ pub(crate) fn coded_range(
                 start + c1,
             )
         }
-        2 => {
+        constants::DW_RLE_startx_endx => {
             let r1 = bytes::leb128::unsigned(part, c);
             let Num::Got(begin, c1) = r1 else {
                 return passed(r1);
@@ -75,7 +76,7 @@ pub(crate) fn coded_range(
                 start + c2,
             )
         }
-        3 => {
+        constants::DW_RLE_startx_length => {
             let r1 = bytes::leb128::unsigned(part, c);
             let Num::Got(begin, c1) = r1 else {
                 return passed(r1);
@@ -93,7 +94,7 @@ pub(crate) fn coded_range(
                 start + c2,
             )
         }
-        4 => {
+        constants::DW_RLE_offset_pair => {
             let r1 = bytes::leb128::unsigned(part, c);
             let Num::Got(begin, c1) = r1 else {
                 return passed(r1);
@@ -107,14 +108,14 @@ pub(crate) fn coded_range(
                 start + c2,
             )
         }
-        5 => {
+        constants::DW_RLE_base_address => {
             let r1 = bytes::reader::read_address(part, c, size, endian);
             let Num::Got(addr, c1) = r1 else {
                 return passed(r1);
             };
             LocationStep::Entry(RawLocListEntry::BaseAddress(addr), start + c1)
         }
-        6 => {
+        constants::DW_RLE_start_end => {
             let r1 = bytes::reader::read_address(part, c, size, endian);
             let Num::Got(begin, c1) = r1 else {
                 return passed(r1);
@@ -128,7 +129,7 @@ pub(crate) fn coded_range(
                 start + c2,
             )
         }
-        7 => {
+        constants::DW_RLE_start_length => {
             let r1 = bytes::reader::read_address(part, c, size, endian);
             let Num::Got(begin, c1) = r1 else {
                 return passed(r1);

@@ -7,6 +7,7 @@ use super::show::Turn;
 use bytes::common::DebugAddrBase;
 use bytes::common::LocationListsOffset;
 use entries::RawLocListEntry;
+use entries::constants;
 use lists::Walk;
 use lists::loclists::LocationAnswer;
 use lists::loclists::LocationConverted;
@@ -17,7 +18,7 @@ use lookups::LocationFound;
 fn form(x: RawLocListEntry) -> Form {
     match x {
         RawLocListEntry::DefaultLocation(_) => Form {
-            code: 6,
+            code: constants::DW_LLE_default_location,
             a: 0,
             b: 0,
         },

@@ -6,6 +6,7 @@ use super::show::Turn;
 use bytes::common::DebugAddrBase;
 use bytes::common::RangeListsOffset;
 use entries::RawRngListEntry;
+use entries::constants;
 use lists::Walk;
 use lists::rnglists::RangeAnswer;
 use lists::rnglists::RangeConverted;
@@ -14,22 +15,46 @@ use lookups::RangeFound;
 
 pub(crate) fn form(x: RawRngListEntry) -> Form {
     match x {
-        RawRngListEntry::AddressOrOffsetPair(a, b) => Form { code: 0, a, b },
-        RawRngListEntry::BaseAddress(a) => Form { code: 1, a, b: 0 },
+        RawRngListEntry::AddressOrOffsetPair(a, b) => Form {
+            code: constants::ADDRESS_OR_OFFSET_PAIR,
+            a,
+            b,
+        },
+        RawRngListEntry::BaseAddress(a) => Form {
+            code: constants::DW_LLE_base_address,
+            a,
+            b: 0,
+        },
         RawRngListEntry::BaseAddressx(a) => Form {
-            code: 2,
+            code: constants::DW_LLE_base_addressx,
             a: a.0,
             b: 0,
         },
         RawRngListEntry::StartxEndx(a, b) => Form {
-            code: 3,
+            code: constants::DW_LLE_startx_endx,
             a: a.0,
             b: b.0,
         },
-        RawRngListEntry::StartxLength(a, b) => Form { code: 4, a: a.0, b },
-        RawRngListEntry::OffsetPair(a, b) => Form { code: 5, a, b },
-        RawRngListEntry::StartEnd(a, b) => Form { code: 7, a, b },
-        RawRngListEntry::StartLength(a, b) => Form { code: 8, a, b },
+        RawRngListEntry::StartxLength(a, b) => Form {
+            code: constants::DW_LLE_startx_length,
+            a: a.0,
+            b,
+        },
+        RawRngListEntry::OffsetPair(a, b) => Form {
+            code: constants::DW_LLE_offset_pair,
+            a,
+            b,
+        },
+        RawRngListEntry::StartEnd(a, b) => Form {
+            code: constants::DW_LLE_start_end,
+            a,
+            b,
+        },
+        RawRngListEntry::StartLength(a, b) => Form {
+            code: constants::DW_LLE_start_length,
+            a,
+            b,
+        },
     }
 }
 

@@ -2,6 +2,7 @@
 use bytes::Num;
 use bytes::error::Error;
 use entries::Expression;
+use entries::constants;
 use libc::STDOUT_FILENO;
 use lists::LocationListEntry;
 use lists::Opened;
@@ -41,7 +42,7 @@ pub(crate) fn refused(e: Error) {
     two(b"refused", e.number(), e.value());
 }
 
-// A raw entry: which, and its numbers, 0 where it has fewer.
+// A raw entry: the code of its kind in a location list, and its numbers, 0 where it has fewer.
 pub struct Form {
     pub code: u64,
     pub a: u64,
@@ -50,14 +51,14 @@ pub struct Form {
 
 fn say_form(code: u64) {
     match code {
-        0 => say(b"AddressOrOffsetPair"),
-        1 => say(b"BaseAddress"),
-        2 => say(b"BaseAddressx"),
-        3 => say(b"StartxEndx"),
-        4 => say(b"StartxLength"),
-        5 => say(b"OffsetPair"),
-        6 => say(b"DefaultLocation"),
-        7 => say(b"StartEnd"),
+        constants::ADDRESS_OR_OFFSET_PAIR => say(b"AddressOrOffsetPair"),
+        constants::DW_LLE_base_address => say(b"BaseAddress"),
+        constants::DW_LLE_base_addressx => say(b"BaseAddressx"),
+        constants::DW_LLE_startx_endx => say(b"StartxEndx"),
+        constants::DW_LLE_startx_length => say(b"StartxLength"),
+        constants::DW_LLE_offset_pair => say(b"OffsetPair"),
+        constants::DW_LLE_default_location => say(b"DefaultLocation"),
+        constants::DW_LLE_start_end => say(b"StartEnd"),
         _ => say(b"StartLength"),
     }
 }
