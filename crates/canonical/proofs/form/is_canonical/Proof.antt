@@ -40,7 +40,7 @@ enum-known-begin c = search needs
 returns-3 : tie.Need-returns-3 Inv-loop μ-loop
 returns-3 c =
     let p = subst (PieceAt _ _) (c .before .before .before .begin .given .1) (c .before .before .before .before .before .piece-at .ensures) in
-    forming-low (c .before .before .before .before .before .before .before .loop .inv) (c .before .before .before .begin .given .0 .1 .1 .0) (p .0) (p .1) (c .before .if1 .taken) (c .if2 .taken)
+    forming-low (c .before .before .before .before .before .before .before .loop .inv) (c .before .before .before .begin .given .0 .1 .1 .0) (p .0) (p .1) (c .before .if1 .taken) (omega (arith, c .if2 .taken))
 
 add-n : tie.Need-add-n Inv-loop μ-loop
 add-n c = omega (arith, c .before .before .before .before .before .loop-test .taken)
@@ -52,7 +52,7 @@ loop-again : tie.Need-loop-again Inv-loop μ-loop
 loop-again c =
     let p = subst (PieceAt _ _) (c .before .before .begin .given .1) (c .before .before .before .before .piece-at .ensures) in
     forming-step (c .before .before .before .before .before .before .loop .inv) (c .before .before .begin .given .0 .1 .1 .0) (p .0) (p .1) (c .before .before .before .before .before .loop-test .taken)
-    (⊎-elim (λ w q. w .1 .left) (λ w q. absurd (omega arith)) (c .if1 .came))
+    (⊎-elim (λ w q. omega (arith, w .1 .left)) (λ w q. absurd (omega arith)) (c .if1 .came))
 
 returns-4 : tie.Need-returns-4 Inv-loop μ-loop
 returns-4 c = forming-many (c .before .loop .inv) (c .loop-test .left)

@@ -20,10 +20,10 @@ returns : tie.Need-returns
 returns c = neither-unread _ _ (sym (c .before .before .read-u8 .ensures) ∙ ap told (c .enum-told .given .1))
 
 returns-2 : tie.Need-returns-2
-returns-2 c = neither-early _ _ (sym (c .before .before .before .before .before .read-u8 .ensures) ∙ ap told (c .before .before .before .code .given .1)) (c .before .if1 .taken) (c .if2 .taken)
+returns-2 c = neither-early _ _ (sym (c .before .before .before .before .before .read-u8 .ensures) ∙ ap told (c .before .before .before .code .given .1)) (c .before .if1 .taken) (omega (arith, c .if2 .taken))
 
 returns-3 : tie.Need-returns-3
-returns-3 c = end-mark _ _ (sym (c .before .before .before .before .before .read-u8 .ensures) ∙ ap told (c .before .before .before .code .given .1)) (c .before .if1 .taken) (c .if2 .left)
+returns-3 c = end-mark _ _ (sym (c .before .before .before .before .before .read-u8 .ensures) ∙ ap told (c .before .before .before .code .given .1)) (c .before .if1 .taken) (omega (arith, c .if2 .left))
 
 returns-4 : tie.Need-returns-4
 returns-4 c = neither-code _ _ (sym (c .before .before .before .before .before .read-u8 .ensures) ∙ ap told (c .before .before .before .code .given .1)) (c .before .if1 .left) (c .if3 .taken)
@@ -59,7 +59,7 @@ sub-if4 : tie.Need-sub-if4
 sub-if4 c = length-after _ _ (sym (c .before .before .before .before .before .before .before .before .before .before .before .before .before .before .read-u8 .ensures) ∙ ap told (c .before .before .before .before .before .before .before .before .before .before .before .before .code .given .1)) (c .before .before .before .before .before .before .before .before .before .if3 .left) (sym (c .before .before .before .before .before .before .before .before .read-u64 .ensures) ∙ ap told (c .before .before .before .before .before .before .begin .given .1)) (sym (c .before .before .before .before .unsigned .ensures) ∙ ap told (c .before .before .length .given .1))
 
 returns-7 : tie.Need-returns-7
-returns-7 c = neither-padded _ _ (sym (c .before .before .before .before .before .before .before .before .before .before .before .before .before .before .before .read-u8 .ensures) ∙ ap told (c .before .before .before .before .before .before .before .before .before .before .before .before .before .code .given .1)) (c .before .before .before .before .before .before .before .before .before .before .if3 .left) (sym (c .before .before .before .before .before .before .before .before .before .read-u64 .ensures) ∙ ap told (c .before .before .before .before .before .before .before .begin .given .1)) (sym (c .before .before .before .before .before .unsigned .ensures) ∙ ap told (c .before .before .before .length .given .1)) (λ e. c .if4 .taken (c .before .unsigned-size .ensures ∙ e))
+returns-7 c = neither-padded _ _ (sym (c .before .before .before .before .before .before .before .before .before .before .before .before .before .before .before .read-u8 .ensures) ∙ ap told (c .before .before .before .before .before .before .before .before .before .before .before .before .before .code .given .1)) (c .before .before .before .before .before .before .before .before .before .before .if3 .left) (sym (c .before .before .before .before .before .before .before .before .before .read-u64 .ensures) ∙ ap told (c .before .before .before .before .before .before .before .begin .given .1)) (sym (c .before .before .before .before .before .unsigned .ensures) ∙ ap told (c .before .before .before .length .given .1)) (λ e. let s = c .before .unsigned-size .ensures in omega (arith, c .if4 .taken))
 
 is-range-requires : tie.Need-is-range-requires
 is-range-requires c κs = search needs
@@ -68,7 +68,7 @@ add-t19 : tie.Need-add-t19
 add-t19 c = let b = rw (c .if5 .taken) at (c .before .is-range .ensures) in omega (arith, b .2)
 
 returns-8 : tie.Need-returns-8
-returns-8 c = (rw (c .if5 .taken) at (c .before .is-range .ensures), entry-is _ _ (sym (c .before .before .before .before .before .before .before .before .before .before .before .before .before .before .before .before .before .read-u8 .ensures) ∙ ap told (c .before .before .before .before .before .before .before .before .before .before .before .before .before .before .before .code .given .1)) (c .before .before .before .before .before .before .before .before .before .before .before .before .if3 .left) (sym (c .before .before .before .before .before .before .before .before .before .before .before .read-u64 .ensures) ∙ ap told (c .before .before .before .before .before .before .before .before .before .begin .given .1)) (sym (c .before .before .before .before .before .before .before .unsigned .ensures) ∙ ap told (c .before .before .before .before .before .length .given .1)) (λ i. omega (arith, c .before .before .before .before .before .before .before .before .before .before .before .before .before .before .before .before .before .before .shared-slice-known .given i)) (sym (c .before .before .before .unsigned-size .ensures) ∙ c .before .before .if4 .left))
+returns-8 c = (rw (c .if5 .taken) at (c .before .is-range .ensures), entry-is _ _ (sym (c .before .before .before .before .before .before .before .before .before .before .before .before .before .before .before .before .before .read-u8 .ensures) ∙ ap told (c .before .before .before .before .before .before .before .before .before .before .before .before .before .before .before .code .given .1)) (c .before .before .before .before .before .before .before .before .before .before .before .before .if3 .left) (sym (c .before .before .before .before .before .before .before .before .before .before .before .read-u64 .ensures) ∙ ap told (c .before .before .before .before .before .before .before .before .before .begin .given .1)) (sym (c .before .before .before .before .before .before .before .unsigned .ensures) ∙ ap told (c .before .before .before .before .before .length .given .1)) (λ i. omega (arith, c .before .before .before .before .before .before .before .before .before .before .before .before .before .before .before .before .before .before .shared-slice-known .given i)) (let s = c .before .before .before .unsigned-size .ensures in omega (arith, c .before .before .if4 .left)))
 
 returns-9 : tie.Need-returns-9
 returns-9 c = neither-range _ _ (sym (c .before .before .before .before .before .before .before .before .before .before .before .before .before .before .before .before .before .read-u8 .ensures) ∙ ap told (c .before .before .before .before .before .before .before .before .before .before .before .before .before .before .before .code .given .1)) (c .before .before .before .before .before .before .before .before .before .before .before .before .if3 .left) (sym (c .before .before .before .before .before .before .before .before .before .before .before .read-u64 .ensures) ∙ ap told (c .before .before .before .before .before .before .before .before .before .begin .given .1)) (sym (c .before .before .before .before .before .before .before .unsigned .ensures) ∙ ap told (c .before .before .before .before .before .length .given .1)) (rw (c .if5 .left) at (c .before .is-range .ensures))
