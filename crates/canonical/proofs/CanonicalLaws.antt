@@ -17,6 +17,7 @@ use Rattle.bytes.specs.Address.{addSized}
 use Rattle.bytes.specs.declared.common.DebugAddrBase.{DebugAddrBase}
 use Rattle.bytes.specs.declared.common.DebugAddrIndex.{DebugAddrIndex}
 use Rattle.bytes.specs.declared.common.Format.{Format}
+use Rattle.bytes.specs.declared.common.Format.the-variants.{Dwarf32}
 use Rattle.bytes.specs.declared.endianity.RunTimeEndian.the-variants.{Little}
 use Rattle.bytes.proofs.ReaderLaws.{uint-got, address-size}
 use Rattle.entries.specs.Forms.{stop, entry}
@@ -78,6 +79,26 @@ module _ (format : Format) (r : Range) (rest : List ℕ) (small : InBounds 8 (r 
   entry-back : rangeEntry (canonicalEncoding format) Little (spread r rest) ≡ gives (got (entry (StartLength (r .0) (r .1 - r .0))) (9 + length (unsignedBytes (r .1 - r .0))))
   unfolding coded kindOf rangeKinds
   entry-back = range-coded (canonicalEncoding format) Little (spread r rest) (omega arith) ∙ rw (code-back, begin-back, length-back)
+
+-- no entry is the end mark, and no other entry begins the same bytes
+pub entry-no-mark : (r : Range) (rest : List ℕ) → entryBytes r ++ rest ≡ 0 ∷ [] → ⊥
+unfolding entryBytes
+entry-no-mark r rest e = omega (arith, ap (λ (l : List ℕ). getD l 0 0) e)
+
+pub entry-once : (r q : Range) (x y : List ℕ) → InBounds 8 (r .0) (r .1) → InBounds 8 (q .0) (q .1) → entryBytes r ++ x ≡ entryBytes q ++ y
+    → (q .0 ≡ r .0) × (q .1 ≡ r .1) × (x ≡ y)
+entry-once r q x y small other e =
+    let f : spread r x ≡ spread q y = sym (entry-spread r x) ∙ e ∙ entry-spread q y in
+    let b : got (r .0) 9 ≡ got (q .0) 9 = sym (begin-back Dwarf32 r x small) ∙ ap (λ (l : List ℕ). address Little 8 l 1) f ∙ begin-back Dwarf32 q y other in
+    let n : got (r .1 - r .0) (9 + length (unsignedBytes (r .1 - r .0))) ≡ got (q .1 - q .0) (9 + length (unsignedBytes (q .1 - q .0))) =
+    sym (length-back Dwarf32 r x small) ∙ ap (λ (l : List ℕ). unsigned l 9) f ∙ length-back Dwarf32 q y other in
+    let c : q .0 ≡ r .0 = cc in
+    let d : r .1 - r .0 ≡ q .1 - q .0 = cc in
+    let g : length (entryBytes r) ≡ length (entryBytes q) = entry-length r ∙ ap (λ (n : ℕ). 9 + length (unsignedBytes n)) d ∙ sym (entry-length q) in (
+      c,
+      omega (arith, small .0, other .0),
+      sym (drop-append-seam (entryBytes r) x) ∙ ap (drop (length (entryBytes r))) e ∙ ap (λ (n : ℕ). drop n (entryBytes q ++ y)) g ∙ drop-append-seam (entryBytes q) y,
+    )
 
 -- the raw entry of the end mark
 end-back : (format : Format) → rangeEntry (canonicalEncoding format) Little (0 ∷ []) ≡ gives (got stop 1)

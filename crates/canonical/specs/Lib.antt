@@ -3,3 +3,4 @@ pub mod Demand
 pub mod Arrays
 pub mod Made
 pub mod Put
+pub mod Form

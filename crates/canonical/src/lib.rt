@@ -1,4 +1,5 @@
 // The canonical list of a coverage, written into lent bytes.
+pub mod form;
 pub mod of_list;
 
 use bytes::error::Error;

@@ -6,7 +6,7 @@ use Prim.Native.Nat.{ℕ, zero, suc, _+_, _-_, _^_, _≤_, _<_}
 use native.Mathlib.Omega.{arith}
 use native.Mathlib.Numerals.{add-one}
 use lib.Dec.{leb, ltb}
-use lib.ListN.{length, take, drop, getD, length-take, length-append, length-replicate, drop-of-length-le}
+use lib.ListN.{length, take, drop, getD, replicate, length-take, length-append, length-replicate, drop-of-length-le}
 use lib.Seq.{drop-cons, getD-take, take-append-seam}
 use borrow.Author.Tests.{le-leb, lt-leb, lt-ltb, le-ltb, leb-true, ltb-true}
 use Rattle.bytes.specs.Address.{minTombstone}
@@ -164,3 +164,18 @@ module _ (c : Coverage) where
 pub kept-lawful : (rs : List Range) → Lawful rs → lawfulSheet (keptAs rs) ≡ true
 kept-lawful rs l =
     sheet-test (keptAs rs) (rw (kept-count rs) (l .few)) ∙ ap (lawfulFrom 0) (ranges-kept rs) ∙ from-lawful 0 rs (l .apart) (l .small)
+
+-- the ends of a coverage that keeps ranges of 64-bit addresses are 64-bit numbers
+zeros-number : (k i : ℕ) → getD (replicate k 0) i 0 < 2 ^ 64
+zeros-number zero i = omega arith
+zeros-number (suc k) zero = omega arith
+zeros-number (suc k) (suc i) = zeros-number k i
+
+ends-number : (rs : List Range) (k i : ℕ) → Small rs → getD (ends rs ++ replicate k 0) i 0 < 2 ^ 64
+ends-number [] k i s = zeros-number k i
+ends-number (r ∷ rs) k zero s = omega (arith, s .0)
+ends-number (r ∷ rs) k (suc i) s = ends-number rs k i (s .1)
+
+pub kept-numbers : (rs : List Range) → Small rs → (i : ℕ) → getD (keptAs rs .ends) i 0 < 2 ^ 64
+unfolding keptAs padded
+kept-numbers rs s i = ends-number rs (limit - length (ends rs)) i s
