@@ -88,42 +88,66 @@ unfolding little
 little-lt [] h = omega arith
 little-lt (b ∷ bs) h = let l : b < 256 = h 0 in let k = little-lt bs (λ i. h (suc i)) in rw pow-suc (omega arith)
 
--- no form of a number is shorter: by induction on the bytes that are read
-abbrev Least : ℕ → ℕ → Read ℕ → Type 0
-Least k at (gives (got v c)) = at + length (unsignedIn k v) ≤ c
-Least k at (refused n vs) = Unit
+-- no form of a number is shorter, and one that is as short is the shortest: by induction on the bytes that are read
+abbrev Read-as : ℕ → ℕ → List ℕ → Read ℕ → Type 0
+Read-as k at l (gives (got v c)) =
+    (at + length (unsignedIn k v) ≤ c)
+    × (((i : ℕ) → getD l i 0 < 256) → c ≡ at + length (unsignedIn k v) → l ≡ unsignedIn k v ++ drop (length (unsignedIn k v)) l)
+Read-as k at l (refused n vs) = Unit
 
-one-byte : (k x : ℕ) → x < 128 → length (unsignedIn k x) ≡ 1
+pub one-byte : (k x : ℕ) → x < 128 → unsignedIn k x ≡ x ∷ []
 unfolding unsignedIn
 one-byte zero x h = refl
-one-byte (suc k) x h = ap length (unsigned-short k x h)
+one-byte (suc k) x h = unsigned-short k x h
 
-divided : (b v : ℕ) → (b % 128 + 128 * v) / 128 ≡ v
-divided b v = omega arith
+some-bytes : (k x : ℕ) → 1 ≤ length (unsignedIn k x)
+unfolding unsignedIn
+some-bytes zero x = omega arith
+some-bytes (suc k) x =
+    ⊎-elim (λ h. rw (unsigned-short k x h) (omega arith)) (λ h. rw (unsigned-long k x h) (omega arith)) (lt-or-le x 128)
 
-below-least : (k at b : ℕ) (r : Read ℕ) → Least k (at + 1) r → Least (suc k) at (below b r)
-below-least k at b (gives (got v c)) h =
-    ⊎-elim (λ l. omega (arith, one-byte (suc k) (b % 128 + 128 * v) l))
-    (λ l. omega (arith, ap length (unsigned-long k (b % 128 + 128 * v) l), ap (λ (x : ℕ). length (unsignedIn k x)) (divided b v)))
-    (lt-or-le (b % 128 + 128 * v) 128)
-below-least k at b (refused n vs) h = tt
+last-read : (k at b : ℕ) (bs : List ℕ) → b < 128 → Read-as k at (b ∷ bs) (gives (got b (at + 1)))
+last-read k at b bs h = rw (one-byte k b h) ((omega arith, λ i e. refl))
 
-from-least : (s : List ℕ) (j k at : ℕ) → j + k ≡ 9 → Least k at (unsignedFrom j s at)
+below-read : (k at b : ℕ) (bs : List ℕ) (r : Read ℕ) → 128 ≤ b → Read-as k (at + 1) bs r → Read-as (suc k) at (b ∷ bs) (below b r)
+below-read k at b bs (refused n vs) l p = tt
+below-read k at b bs (gives (got v c)) l p =
+    let x = b % 128 + 128 * v in
+    let d : x / 128 ≡ v = omega arith in
+    let s = some-bytes k v in
+    ⊎-elim
+    (λ q. rw (unsigned-short k x q) ((omega (arith, p .0), λ i e. absurd (omega (arith, p .0)))))
+    (λ q. rw (unsigned-long k x q, d)
+    ((omega (arith, p .0), λ i e.
+    let h : b < 256 = i 0 in
+    let m : x % 128 + 128 ≡ b = omega arith in
+    rw m (ap (λ (t : List ℕ). b ∷ t) (p .1 (λ j. i (suc j)) (omega arith))))))
+    (lt-or-le x 128)
+
+read-from : (l : List ℕ) (j k at : ℕ) → j + k ≡ 9 → Read-as k at l (unsignedFrom j l at)
 unfolding unsignedFrom
-from-least [] j k at e = tt
-from-least (b ∷ bs) j zero at e =
-    pick-ind (Least zero at) (eqb j 9 && ltb 1 b) (λ x. tt)
-    (λ x. pick-ind (Least zero at) (ltb b 128) (λ y. omega (arith, one-byte zero b (ltb-true b 128 y)))
+read-from [] j k at e = tt
+read-from (b ∷ bs) j zero at e =
+    pick-ind (Read-as zero at (b ∷ bs)) (eqb j 9 && ltb 1 b) (λ x. tt)
+    (λ x. pick-ind (Read-as zero at (b ∷ bs)) (ltb b 128) (λ y. last-read zero at b bs (ltb-true b 128 y))
     (λ y. let z : (eqb j 9 && ltb 1 b) ≡ true = rw (eq-eqb j 9 (omega arith)) (lt-ltb 1 b (omega (arith, ltb-false b 128 y))) in
     let f : _≡_ {A = ℕ} 0 1 = cc in absurd (omega arith)))
-from-least (b ∷ bs) j (suc k) at e =
-    pick-ind (Least (suc k) at) (eqb j 9 && ltb 1 b) (λ x. tt)
-    (λ x. pick-ind (Least (suc k) at) (ltb b 128) (λ y. omega (arith, one-byte (suc k) b (ltb-true b 128 y)))
-    (λ y. below-least k at b (unsignedFrom (j + 1) bs (at + 1)) (from-least bs (j + 1) k (at + 1) (omega arith))))
+read-from (b ∷ bs) j (suc k) at e =
+    pick-ind (Read-as (suc k) at (b ∷ bs)) (eqb j 9 && ltb 1 b) (λ x. tt)
+    (λ x. pick-ind (Read-as (suc k) at (b ∷ bs)) (ltb b 128) (λ y. last-read (suc k) at b bs (ltb-true b 128 y))
+    (λ y. below-read k at b bs (unsignedFrom (j + 1) bs (at + 1)) (ltb-false b 128 y) (read-from bs (j + 1) k (at + 1) (omega arith))))
 
-pub shortest : (s : List ℕ) (at : ℕ) {v c : ℕ} → unsigned s at ≡ gives (got v c) → at + length (unsignedBytes v) ≤ c
-unfolding unsigned
-shortest s at e = subst (Least 9 at) e (from-least (drop at s) 0 9 at refl)
+module _ (s : List ℕ) (at : ℕ) {v c : ℕ} (e : unsigned s at ≡ gives (got v c)) where
+  read-as : Read-as 9 at (drop at s) (gives (got v c))
+  unfolding unsigned
+  read-as = subst (Read-as 9 at (drop at s)) e (read-from (drop at s) 0 9 at refl)
+
+  pub shortest : at + length (unsignedBytes v) ≤ c
+  shortest = read-as .0
+
+  pub shortest-form : ((i : ℕ) → getD (drop at s) i 0 < 256) → c ≡ at + length (unsignedBytes v)
+      → drop at s ≡ unsignedBytes v ++ drop (length (unsignedBytes v)) (drop at s)
+  shortest-form h q = read-as .1 h q
 
 -- what is written is bytes
 pub append-bytes : (xs ys : List ℕ) → ((i : ℕ) → getD xs i 0 < 256) → ((i : ℕ) → getD ys i 0 < 256) → (i : ℕ) → getD (xs ++ ys) i 0 < 256

@@ -89,8 +89,8 @@ pub entry-once : (r q : Range) (x y : List ℕ) → InBounds 8 (r .0) (r .1) →
     → (q .0 ≡ r .0) × (q .1 ≡ r .1) × (x ≡ y)
 entry-once r q x y small other e =
     let f : spread r x ≡ spread q y = sym (entry-spread r x) ∙ e ∙ entry-spread q y in
-    let b : got (r .0) 9 ≡ got (q .0) 9 = sym (begin-back Dwarf32 r x small) ∙ ap (λ (l : List ℕ). address Little 8 l 1) f ∙ begin-back Dwarf32 q y other in
-    let n : got (r .1 - r .0) (9 + length (unsignedBytes (r .1 - r .0))) ≡ got (q .1 - q .0) (9 + length (unsignedBytes (q .1 - q .0))) =
+    let b : gives (got (r .0) 9) ≡ gives (got (q .0) 9) = sym (begin-back Dwarf32 r x small) ∙ ap (λ (l : List ℕ). address Little 8 l 1) f ∙ begin-back Dwarf32 q y other in
+    let n : gives (got (r .1 - r .0) (9 + length (unsignedBytes (r .1 - r .0)))) ≡ gives (got (q .1 - q .0) (9 + length (unsignedBytes (q .1 - q .0)))) =
     sym (length-back Dwarf32 r x small) ∙ ap (λ (l : List ℕ). unsigned l 9) f ∙ length-back Dwarf32 q y other in
     let c : q .0 ≡ r .0 = cc in
     let d : r .1 - r .0 ≡ q .1 - q .0 = cc in

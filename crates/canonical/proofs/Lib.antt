@@ -5,6 +5,5 @@ pub mod Unsigned
 pub mod Entries
 pub mod Answers
 pub mod MadeLaws
-pub mod Shortest
 pub mod Forming
 pub mod Pieces

@@ -7,7 +7,7 @@ use Prim.Native.Nat.{ℕ, zero, suc, _+_, _-_, _*_, _^_, _≤_, _<_}
 use native.Mathlib.Omega.{arith}
 use lib.ListN.{length, take, drop, getD, take-append-drop, length-append, length-drop, length-take, drop-of-length-le}
 use lib.Seq.{drop-cons, drop-drop, getD-drop, getD-take, take-at, drop-append-seam}
-use Rattle.bytes.specs.Read.{got, refused}
+use Rattle.bytes.specs.Read.{got, gives, refused}
 use Rattle.bytes.specs.Endianity.{little}
 use Rattle.bytes.specs.Leb128.{unsignedFrom, unsigned}
 use Rattle.bytes.specs.Reader.{uint}
@@ -15,15 +15,14 @@ use Rattle.bytes.specs.Written.{littleBytes, unsignedBytes}
 use Rattle.bytes.specs.declared.endianity.RunTimeEndian.the-variants.{Little}
 use Rattle.bytes.proofs.Order.{lt-or-le}
 use Rattle.bytes.proofs.ReaderLaws.{uint-short, uint-got}
-use Rattle.bytes.proofs.WrittenLaws.{length-little, little-back, little-written, unsigned-back, shortest}
+use Rattle.bytes.proofs.WrittenLaws.{length-little, little-back, little-written, unsigned-back, shortest, shortest-form}
 use Rattle.lists.specs.Walks.{InBounds}
 use Rattle.coverage.specs.Ranges.{Range}
 use Rattle.canonical.specs.Canonical.{entryBytes}
 use Rattle.canonical.specs.Form.{Neither}
-use Rattle.canonical.proofs.Shortest.{shortest-form}
 
 -- a number that was read lies in the bytes
-uint-inside : (n : ℕ) (s : List ℕ) (at : ℕ) {v c : ℕ} → uint Little n s at ≡ got v c → (at + n ≤ length s) × (c ≡ at + n) × (v ≡ little (take n (drop at s)))
+uint-inside : (n : ℕ) (s : List ℕ) (at : ℕ) {v c : ℕ} → uint Little n s at ≡ gives (got v c) → (at + n ≤ length s) × (c ≡ at + n) × (v ≡ little (take n (drop at s)))
 uint-inside n s at e =
     ⊎-elim
     (λ h. let f = sym (uint-short Little n s at h) ∙ e in let z : _≡_ {A = ℕ} 0 1 = cc in absurd (omega arith))
@@ -48,9 +47,9 @@ module _ (s : List ℕ) (at : ℕ) where
     mark-length : at + 1 ≡ length s
     mark-length = omega (arith, ap length e, length-drop at s)
 
-    mark-read : uint Little 1 s at ≡ got 0 (at + 1)
+    mark-read : uint Little 1 s at ≡ gives (got 0 (at + 1))
     unfolding little
-    mark-read = uint-got Little 1 s at (omega (arith, mark-length)) ∙ ap (λ (l : List ℕ). got (little (take 1 l)) (at + 1)) e
+    mark-read = uint-got Little 1 s at (omega (arith, mark-length)) ∙ ap (λ (l : List ℕ). gives (got (little (take 1 l)) (at + 1))) e
 
   -- the entry of a range, whatever follows it
   module _ (r : Range) (rest : List ℕ) (small : InBounds 8 (r .0) (r .1)) (e : drop at s ≡ entryBytes r ++ rest) where
@@ -65,18 +64,18 @@ module _ (s : List ℕ) (at : ℕ) where
     room =
         omega (arith, ap length spread, length-drop at s, length-append (littleBytes 8 (r .0)) (unsignedBytes n ++ rest), length-little 8 (r .0))
 
-    code-read : uint Little 1 s at ≡ got 7 (at + 1)
+    code-read : uint Little 1 s at ≡ gives (got 7 (at + 1))
     unfolding little
-    code-read = uint-got Little 1 s at (omega (arith, room)) ∙ ap (λ (l : List ℕ). got (little (take 1 l)) (at + 1)) spread
+    code-read = uint-got Little 1 s at (omega (arith, room)) ∙ ap (λ (l : List ℕ). gives (got (little (take 1 l)) (at + 1))) spread
 
     after-code : drop (at + 1) s ≡ littleBytes 8 (r .0) ++ (unsignedBytes n ++ rest)
     after-code = sym (drop-drop 1 at s) ∙ ap (drop 1) spread
 
-    begin-read : uint Little 8 s (at + 1) ≡ got (r .0) (at + 9)
+    begin-read : uint Little 8 s (at + 1) ≡ gives (got (r .0) (at + 9))
     begin-read =
         uint-got Little 8 s (at + 1) (omega (arith, room))
-        ∙ ap₂ (λ (l : List ℕ) (c : ℕ). got (little l) c) (ap (take 8) after-code ∙ take-at (littleBytes 8 (r .0)) (unsignedBytes n ++ rest) 8 (length-little 8 (r .0))) (omega arith)
-        ∙ ap (λ (b : ℕ). got b (at + 9)) (little-back 8 (r .0) (omega arith))
+        ∙ ap₂ (λ (l : List ℕ) (c : ℕ). gives (got (little l) c)) (ap (take 8) after-code ∙ take-at (littleBytes 8 (r .0)) (unsignedBytes n ++ rest) 8 (length-little 8 (r .0))) (omega arith)
+        ∙ ap (λ (b : ℕ). gives (got b (at + 9))) (little-back 8 (r .0) (omega arith))
 
     after-begin : drop (at + 9) s ≡ unsignedBytes n ++ rest
     after-begin =
@@ -84,7 +83,7 @@ module _ (s : List ℕ) (at : ℕ) where
         ap (λ (k : ℕ). drop k s) k ∙ sym (drop-drop 8 (at + 1) s) ∙ ap (drop 8) after-code
         ∙ ap (λ (k : ℕ). drop k (littleBytes 8 (r .0) ++ (unsignedBytes n ++ rest))) (sym (length-little 8 (r .0))) ∙ drop-append-seam (littleBytes 8 (r .0)) (unsignedBytes n ++ rest)
 
-    length-read : unsigned s (at + 9) ≡ got n (at + 9 + length (unsignedBytes n))
+    length-read : unsigned s (at + 9) ≡ gives (got n (at + 9 + length (unsignedBytes n)))
     unfolding unsigned
     length-read = ap (λ (l : List ℕ). unsignedFrom 0 l (at + 9)) after-begin ∙ unsigned-back 0 9 n (at + 9) rest refl (omega arith)
 
@@ -96,7 +95,7 @@ module _ (s : List ℕ) (at : ℕ) where
         entry = λ r rest small e. let f = sym (code-read r rest small e) ∙ u in let z : _≡_ {A = ℕ} 0 1 = cc in omega arith;
       }
 
-  module _ {code c : ℕ} (u : uint Little 1 s at ≡ got code c) where
+  module _ {code c : ℕ} (u : uint Little 1 s at ≡ gives (got code c)) where
     mark-code : drop at s ≡ 0 ∷ [] → (code ≡ 0) × (c ≡ length s)
     mark-code e = let f = sym (mark-read e) ∙ u in let p : code ≡ 0 = cc in let q : c ≡ at + 1 = cc in (p, q ∙ mark-length e)
 
@@ -139,7 +138,7 @@ module _ (s : List ℕ) (at : ℕ) where
                 omega arith;
           }
 
-      module _ {begin c1 : ℕ} (b : uint Little 8 s c ≡ got begin c1) where
+      module _ {begin c1 : ℕ} (b : uint Little 8 s c ≡ gives (got begin c1)) where
         entry-begin : (r : Range) (rest : List ℕ) → InBounds 8 (r .0) (r .1) → drop at s ≡ entryBytes r ++ rest → (begin ≡ r .0) × (c1 ≡ at + 9)
         entry-begin r rest small e =
             let f = sym (begin-read r rest small e) ∙ ap (uint Little 8 s) (sym (entry-code r rest small e .1)) ∙ b in (cc, cc)
@@ -154,7 +153,7 @@ module _ (s : List ℕ) (at : ℕ) where
                   omega arith;
             }
 
-        module _ {len c2 : ℕ} (l : unsigned s c1 ≡ got len c2) where
+        module _ {len c2 : ℕ} (l : unsigned s c1 ≡ gives (got len c2)) where
           entry-end : (r : Range) (rest : List ℕ) → InBounds 8 (r .0) (r .1) → drop at s ≡ entryBytes r ++ rest
               → (len ≡ r .1 - r .0) × (c2 ≡ at + 9 + length (unsignedBytes (r .1 - r .0)))
           entry-end r rest small e =
@@ -200,7 +199,7 @@ module _ (s : List ℕ) (at : ℕ) where
               ∙ ap₂ _++_ (sym (eight-written s c (j .0) h) ∙ ap (littleBytes 8) (sym (j .2))) (drop-drop 8 c s ∙ ap (λ (k : ℕ). drop k s) e) in
               let n : c2 ≡ c1 + length (unsignedBytes len) = omega (arith, length-after) in
               let o : drop c1 s ≡ unsignedBytes len ++ drop c2 s =
-              shortest-form s c1 (λ k. rw (getD-drop c1 s k 0) (h (c1 + k))) l n
+              shortest-form s c1 l (λ k. rw (getD-drop c1 s k 0) (h (c1 + k))) n
               ∙ ap (λ (x : List ℕ). unsignedBytes len ++ x) (drop-drop (length (unsignedBytes len)) c1 s ∙ ap (λ (k : ℕ). drop k s) (sym n)) in
               let w : begin + len - begin ≡ len = omega arith in
               rw (w)

@@ -11,12 +11,7 @@ use lib.ListN.{length, set, length-set}
 use lib.Seq.{sets}
 use Rattle.bytes.specs.Written.{unsignedIn, unsignedBytes}
 use Rattle.bytes.proofs.Order.{lt-or-le}
-use Rattle.bytes.proofs.WrittenLaws.{unsigned-short, unsigned-long}
-
-unsigned-last : (k x : ℕ) → x < 128 → unsignedIn k x ≡ x ∷ []
-unfolding unsignedIn
-unsigned-last zero x h = refl
-unsigned-last (suc k) x h = unsigned-short k x h
+use Rattle.bytes.proofs.WrittenLaws.{unsigned-short, unsigned-long, one-byte}
 
 -- a byte and those after it, of a number that k bytes and one more hold
 unsigned-more : (k x : ℕ) → 128 ≤ x → x < 2 * 128 ^ k
@@ -52,7 +47,7 @@ module _ {x n rest : ℕ} (t : Counted x n rest) where
 
   pub counted-end : rest < 128 → n ≡ length (unsignedBytes x)
   counted-end h =
-      let q : n + 1 ≡ 1 + length (unsignedBytes x) = rw (unsigned-last (t .k) rest h) at (t .same) in
+      let q : n + 1 ≡ 1 + length (unsignedBytes x) = rw (one-byte (t .k) rest h) at (t .same) in
       omega arith
 
 -- at p are still to be written the bytes of rest
@@ -87,4 +82,4 @@ module _ {l₀ l : List ℕ} {at x p rest : ℕ} (t : Left l₀ at x l p rest) w
       }
 
   pub left-end : rest < 128 → (p + 1 ≡ at + length (unsignedBytes x)) × (set l p rest ≡ sets l₀ at (unsignedBytes x))
-  left-end h = (rw (unsigned-last (t .k) rest h) at (t .place), rw (unsigned-last (t .k) rest h) at (t .same))
+  left-end h = (rw (one-byte (t .k) rest h) at (t .place), rw (one-byte (t .k) rest h) at (t .same))
