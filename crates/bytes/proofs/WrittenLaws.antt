@@ -21,6 +21,10 @@ unfolding littleBytes
 length-little zero x = refl
 length-little (suc k) x = ap suc (length-little k (x / 256))
 
+pub little-pair : (x : ℕ) → littleBytes 2 x ≡ x % 256 ∷ x / 256 % 256 ∷ []
+unfolding littleBytes
+little-pair x = refl
+
 -- a number of k bytes
 pub little-back : (k x : ℕ) → x < 256 ^ k → little (littleBytes k x) ≡ x
 unfolding little littleBytes
@@ -62,6 +66,19 @@ module _ (k x : ℕ) where
   unfolding unsignedIn
   unsigned-long h = rw (le-ltb x 128 h)
 
+pub unsigned-last : (k x : ℕ) → x < 128 → unsignedIn k x ≡ x ∷ []
+unfolding unsignedIn
+unsigned-last zero x h = refl
+unsigned-last (suc k) x h = unsigned-short k x h
+
+-- a form has a byte at least, and at most as many as there is room for
+pub unsigned-length : (k x : ℕ) → (1 ≤ length (unsignedIn k x)) × (length (unsignedIn k x) ≤ suc k)
+unfolding unsignedIn
+unsigned-length zero x = omega arith
+unsigned-length (suc k) x =
+    let rest = unsigned-length k (x / 128) in
+    ⊎-elim (λ h. rw (unsigned-short k x h) (omega arith)) (λ h. rw (unsigned-long k x h) (omega arith)) (lt-or-le x 128)
+
 below-back : (x at n : ℕ) → below (x % 128 + 128) (gives (got (x / 128) (at + 1 + n))) ≡ gives (got x (at + suc n))
 below-back x at n =
     let v : (x % 128 + 128) % 128 + 128 * (x / 128) ≡ x = omega arith in
@@ -81,6 +98,12 @@ unsigned-back j (suc k) x at rest e h =
     ∙ ap (below (x % 128 + 128)) (unsigned-back (j + 1) k (x / 128) (at + 1) rest (omega arith) (omega arith))
     ∙ below-back x at (length (unsignedIn k (x / 128)))))
     (lt-or-le x 128)
+
+-- a number that was written at a place is read there
+pub unsigned-there : (s : List ℕ) (at x : ℕ) (rest : List ℕ) → x < 2 ^ 64 → drop at s ≡ unsignedBytes x ++ rest
+    → unsigned s at ≡ gives (got x (at + length (unsignedBytes x)))
+unfolding unsigned
+unsigned-there s at x rest h d = ap (λ (l : List ℕ). unsignedFrom 0 l at) d ∙ unsigned-back 0 9 x at rest refl (omega arith)
 
 -- the number of bytes is below as many powers of 256
 pub little-lt : (bs : List ℕ) → ((i : ℕ) → getD bs i 0 < 256) → little bs < 256 ^ length bs

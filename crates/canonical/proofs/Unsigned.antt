@@ -11,25 +11,13 @@ use lib.ListN.{length, set, length-set}
 use lib.Seq.{sets}
 use Rattle.bytes.specs.Written.{unsignedIn, unsignedBytes}
 use Rattle.bytes.proofs.Order.{lt-or-le}
-use Rattle.bytes.proofs.WrittenLaws.{unsigned-short, unsigned-long}
-
-unsigned-last : (k x : ℕ) → x < 128 → unsignedIn k x ≡ x ∷ []
-unfolding unsignedIn
-unsigned-last zero x h = refl
-unsigned-last (suc k) x h = unsigned-short k x h
+use Rattle.bytes.proofs.WrittenLaws.{unsigned-last, unsigned-long, unsigned-length}
 
 -- a byte and those after it, of a number that k bytes and one more hold
 unsigned-more : (k x : ℕ) → 128 ≤ x → x < 2 * 128 ^ k
     → (j : ℕ) × (unsignedIn k x ≡ (x % 128 + 128) ∷ unsignedIn j (x / 128)) × (x / 128 < 2 * 128 ^ j)
 unsigned-more zero x h s = absurd (omega arith)
 unsigned-more (suc k) x h s = let l : x < 2 * (128 ^ k * 128) = rw pow-suc at s in (k, unsigned-long k x h, omega arith)
-
-pub unsigned-length : (k x : ℕ) → (1 ≤ length (unsignedIn k x)) × (length (unsignedIn k x) ≤ suc k)
-unfolding unsignedIn
-unsigned-length zero x = omega arith
-unsigned-length (suc k) x =
-    let rest = unsigned-length k (x / 128) in
-    ⊎-elim (λ h. rw (unsigned-short k x h) (omega arith)) (λ h. rw (unsigned-long k x h) (omega arith)) (lt-or-le x 128)
 
 -- of x are left the bytes of rest, of which n counts the first
 pub record Counted (x n rest : ℕ) : Type 0 where
