@@ -1,8 +1,7 @@
 -- An unsigned LEB128 form counted and written byte by byte: what is left of it, with what is done, is the same all along.
 -- Assumes nothing.
 use mathlib.Core.Path.{_≡_, refl, _∙_}
-use mathlib.Core.List.{List, [], _∷_}
-use mathlib.Core.Logic.{⊎-elim}
+use mathlib.Core.List.{List, _∷_}
 use Prim.Native.Nat.{ℕ, zero, suc, _+_, _*_, _/_, _%_, _^_, _≤_, _<_}
 use native.Mathlib.Nat.{pow-suc}
 use native.Mathlib.Numerals.{add-one}
@@ -10,7 +9,6 @@ use native.Mathlib.Omega.{arith}
 use lib.ListN.{length, set, length-set}
 use lib.Seq.{sets}
 use Rattle.bytes.specs.Written.{unsignedIn, unsignedBytes}
-use Rattle.bytes.proofs.Order.{lt-or-le}
 use Rattle.bytes.proofs.WrittenLaws.{unsigned-last, unsigned-long, unsigned-length}
 
 -- a byte and those after it, of a number that k bytes and one more hold
