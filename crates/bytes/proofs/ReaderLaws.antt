@@ -125,6 +125,10 @@ pub is-8 : (n : ℕ) → (n ≡ 1 → ⊥) → (n ≡ 2 → ⊥) → (n ≡ 4 �
 unfolding isSize
 is-8 n a b d = simp (ne-eqb n 1 a, ne-eqb n 2 b, ne-eqb n 4 d)
 
+pub size-8 : isSize 8 ≡ true
+unfolding isSize
+size-8 = refl
+
 -- an address size in a header
 module _ (s : List ℕ) (at : ℕ) {r : Num} (p : told r ≡ uint Little 1 s at) where
   pub no-size : {e : Error} → r ≡ num.Refused e → addressSize s at ≡ refusal e

@@ -11,6 +11,15 @@ use lib.Seq.{drop-cons, take-add, drop-drop}
 use Rattle.bytes.specs.Endianity.{little}
 use Rattle.bytes.specs.Swap.{swap, Loaded}
 
+-- of one byte, and of two
+pub little-one : (b : ℕ) → little (b ∷ []) ≡ b
+unfolding little
+little-one b = omega arith
+
+pub little-two : (a b : ℕ) → little (a ∷ b ∷ []) ≡ a + 256 * b
+unfolding little
+little-two a b = omega arith
+
 -- numbers side by side, the first lower
 pub little-append : (xs ys : List ℕ) → little (xs ++ ys) ≡ little ys * 256 ^ length xs + little xs
 unfolding little

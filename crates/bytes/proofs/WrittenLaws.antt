@@ -21,6 +21,10 @@ unfolding littleBytes
 length-little zero x = refl
 length-little (suc k) x = ap suc (length-little k (x / 256))
 
+pub little-pair : (x : ℕ) → littleBytes 2 x ≡ x % 256 ∷ x / 256 % 256 ∷ []
+unfolding littleBytes
+little-pair x = refl
+
 -- a number of k bytes
 pub little-back : (k x : ℕ) → x < 256 ^ k → little (littleBytes k x) ≡ x
 unfolding little littleBytes
@@ -62,6 +66,19 @@ module _ (k x : ℕ) where
   unfolding unsignedIn
   unsigned-long h = rw (le-ltb x 128 h)
 
+pub unsigned-last : (k x : ℕ) → x < 128 → unsignedIn k x ≡ x ∷ []
+unfolding unsignedIn
+unsigned-last zero x h = refl
+unsigned-last (suc k) x h = unsigned-short k x h
+
+-- a form has a byte at least, and at most as many as there is room for
+pub unsigned-length : (k x : ℕ) → (1 ≤ length (unsignedIn k x)) × (length (unsignedIn k x) ≤ suc k)
+unfolding unsignedIn
+unsigned-length zero x = omega arith
+unsigned-length (suc k) x =
+    let rest = unsigned-length k (x / 128) in
+    ⊎-elim (λ h. rw (unsigned-short k x h) (omega arith)) (λ h. rw (unsigned-long k x h) (omega arith)) (lt-or-le x 128)
+
 below-back : (x at n : ℕ) → below (x % 128 + 128) (gives (got (x / 128) (at + 1 + n))) ≡ gives (got x (at + suc n))
 below-back x at n =
     let v : (x % 128 + 128) % 128 + 128 * (x / 128) ≡ x = omega arith in
@@ -82,6 +99,12 @@ unsigned-back j (suc k) x at rest e h =
     ∙ below-back x at (length (unsignedIn k (x / 128)))))
     (lt-or-le x 128)
 
+-- a number that was written at a place is read there
+pub unsigned-there : (s : List ℕ) (at x : ℕ) (rest : List ℕ) → x < 2 ^ 64 → drop at s ≡ unsignedBytes x ++ rest
+    → unsigned s at ≡ gives (got x (at + length (unsignedBytes x)))
+unfolding unsigned
+unsigned-there s at x rest h d = ap (λ (l : List ℕ). unsignedFrom 0 l at) d ∙ unsigned-back 0 9 x at rest refl (omega arith)
+
 -- the number of bytes is below as many powers of 256
 pub little-lt : (bs : List ℕ) → ((i : ℕ) → getD bs i 0 < 256) → little bs < 256 ^ length bs
 unfolding little
@@ -95,26 +118,15 @@ Read-as k at l (gives (got v c)) =
     × (((i : ℕ) → getD l i 0 < 256) → c ≡ at + length (unsignedIn k v) → l ≡ unsignedIn k v ++ drop (length (unsignedIn k v)) l)
 Read-as k at l (refused n vs) = Unit
 
-pub one-byte : (k x : ℕ) → x < 128 → unsignedIn k x ≡ x ∷ []
-unfolding unsignedIn
-one-byte zero x h = refl
-one-byte (suc k) x h = unsigned-short k x h
-
-some-bytes : (k x : ℕ) → 1 ≤ length (unsignedIn k x)
-unfolding unsignedIn
-some-bytes zero x = omega arith
-some-bytes (suc k) x =
-    ⊎-elim (λ h. rw (unsigned-short k x h) (omega arith)) (λ h. rw (unsigned-long k x h) (omega arith)) (lt-or-le x 128)
-
 last-read : (k at b : ℕ) (bs : List ℕ) → b < 128 → Read-as k at (b ∷ bs) (gives (got b (at + 1)))
-last-read k at b bs h = rw (one-byte k b h) ((omega arith, λ i e. refl))
+last-read k at b bs h = rw (unsigned-last k b h) ((omega arith, λ i e. refl))
 
 below-read : (k at b : ℕ) (bs : List ℕ) (r : Read ℕ) → 128 ≤ b → Read-as k (at + 1) bs r → Read-as (suc k) at (b ∷ bs) (below b r)
 below-read k at b bs (refused n vs) l p = tt
 below-read k at b bs (gives (got v c)) l p =
     let x = b % 128 + 128 * v in
     let d : x / 128 ≡ v = omega arith in
-    let s = some-bytes k v in
+    let s = unsigned-length k v .0 in
     ⊎-elim
     (λ q. rw (unsigned-short k x q) ((omega (arith, p .0), λ i e. absurd (omega (arith, p .0)))))
     (λ q. rw (unsigned-long k x q, d)

@@ -1,6 +1,6 @@
 // Formats, encodings, and the numbers that must not stand for one another.
 ghost use mathlib.Core.Path.{_≡_};
-ghost use Rattle.bytes.specs.Common.{initialLengthSize, wordSize};
+ghost use Rattle.bytes.specs.Common.{initialLengthSize, wordSize, isSplit};
 
 // Whether offsets and lengths of a unit have 32 or 64 bits.
 pub enum Format {
@@ -41,6 +41,18 @@ pub struct Encoding {
 pub enum DwarfFileType {
     Main,
     Dwo,
+}
+
+impl DwarfFileType {
+    // Whether the file is a split one.
+    pub fn is_split(self) -> bool
+        ensures { λ r. ⌜ r ≡ isSplit self ⌝ }
+    {
+        match self {
+            DwarfFileType::Main => false,
+            DwarfFileType::Dwo => true,
+        }
+    }
 }
 
 // Where a table's header stands in `.debug_addr`.

@@ -7,13 +7,14 @@ use lib.ListN.{length}
 use Rattle.bytes.specs.Error.{number, values, refusal}
 use Rattle.bytes.specs.declared.error.Error.the-variants.{BadSheet}
 use Rattle.coverage.specs.Ranges.{limit}
-use Rattle.coverage.specs.Kept.{rangesOf, lawfulSheet}
+use Rattle.coverage.specs.Kept.{lawfulSheet}
 use Rattle.canonical.specs.Canonical.{canonicalBytes, canonicalKept}
 use Rattle.coverage.specs.Output.{output, written}
 use Rattle.coverage.specs.Told.{toldWrote}
 use Rattle.coverage.specs.declared.Coverage.{Coverage}
 use Rattle.coverage.specs.declared.Wrote.{Wrote}
 use Rattle.coverage.specs.declared.Wrote.the-variants as wrote
+use Rattle.coverage.proofs.KeptLaws.{ranges-are}
 use Rattle.coverage.proofs.Checked.{lawful-few, lawful-apart}
 use Rattle.coverage.proofs.OutputLaws.{written-refused, written-short}
 use Rattle.canonical.proofs.Sources.{kept-bytes}
@@ -33,7 +34,6 @@ module _ (c : Coverage) (l : List ℕ) where
 
   pub canonical-put : {m : List ℕ} (r : Wrote) → lawfulSheet c ≡ true → Put r (canonicalBytes (firsts (c .n) (c .begins) (c .ends))) l m
       → output (toldWrote r) m ≡ written (canonicalKept c) l
-  unfolding rangesOf
-  canonical-put (wrote.Bytes n) law p = rw (kept-bytes c law) (all-written (canonicalBytes (firsts (c .n) (c .begins) (c .ends))) l (p .0) (p .1) (p .2))
+  canonical-put (wrote.Bytes n) law p = rw (kept-bytes c law, ranges-are c) (all-written (canonicalBytes (firsts (c .n) (c .begins) (c .ends))) l (p .0) (p .1) (p .2))
   canonical-put (wrote.Refused e) law p =
-      rw (kept-bytes c law, p .0, p .2) (sym (written-short (canonicalBytes (firsts (c .n) (c .begins) (c .ends))) l (p .1)))
+      rw (kept-bytes c law, ranges-are c, p .0, p .2) (sym (written-short (canonicalBytes (firsts (c .n) (c .begins) (c .ends))) l (p .1)))

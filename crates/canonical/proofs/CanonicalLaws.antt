@@ -1,17 +1,16 @@
 -- A canonical list walked back yields the ranges it was written from, one by one: by induction on the ranges.
 -- Assumes nothing.
 use mathlib.Core.Path.{_≡_, refl, sym, ap, _∙_}
-use mathlib.Core.Bool.{true}
+use mathlib.Core.Bool.{false}
 use mathlib.Core.List.{List, [], _∷_, _++_, append-assoc}
 use Prim.Native.Nat.{ℕ, zero, suc, _+_, _-_, _^_, _≤_, _<_}
 use native.Mathlib.Omega.{arith}
 use lib.ListN.{length, drop, getD, length-append, length-drop}
-use lib.Seq.{take-at, drop-drop, drop-append-seam}
-use borrow.Author.Tests.{le-leb, lt-leb}
-use Rattle.coverage.proofs.CoveredLaws.{mapped}
-use Rattle.bytes.specs.Read.{Result, gives, got}
+use lib.Seq.{take-at, drop-at, drop-drop, drop-append-seam}
+use borrow.Author.Tests.{lt-leb}
+use Rattle.bytes.specs.Read.{Result, gives, got, andThen}
 use Rattle.bytes.specs.Endianity.{little}
-use Rattle.bytes.specs.Reader.{uint, isSize, address}
+use Rattle.bytes.specs.Reader.{uint, address}
 use Rattle.bytes.specs.Leb128.{unsigned}
 use Rattle.bytes.specs.Address.{addSized}
 use Rattle.bytes.specs.declared.common.DebugAddrBase.{DebugAddrBase}
@@ -19,24 +18,29 @@ use Rattle.bytes.specs.declared.common.DebugAddrIndex.{DebugAddrIndex}
 use Rattle.bytes.specs.declared.common.Format.{Format}
 use Rattle.bytes.specs.declared.common.Format.the-variants.{Dwarf32}
 use Rattle.bytes.specs.declared.endianity.RunTimeEndian.the-variants.{Little}
-use Rattle.bytes.proofs.ReaderLaws.{uint-got, address-size}
+use Rattle.bytes.proofs.Values.{little-one}
+use Rattle.bytes.proofs.ReaderLaws.{uint-got, size-8, address-size}
 use Rattle.entries.specs.Forms.{stop, entry}
-use Rattle.entries.specs.Kinds.{rangeKinds, kindOf, coded, rangeEntry, moved, rawRange}
+use Rattle.entries.specs.Kinds.{rangeEntry, moved, rawRange}
 use Rattle.entries.specs.declared.RawRngListEntry.the-variants.{StartLength}
-use Rattle.entries.proofs.KindLaws.{range-coded, raw-there}
-use Rattle.entries.proofs.EntryTook.{range-took}
-use Rattle.lists.specs.Open.{walkAt, opened}
+use Rattle.entries.proofs.KindLaws.{start-length-range, end-of-ranges, range-coded, raw-there}
+use Rattle.lists.specs.Open.{walkAt}
 use Rattle.lists.specs.Convert.{range, convert, tableAt}
 use Rattle.lists.specs.Walk.{ranges, item, Trace, over, trace, handed}
 use Rattle.lists.specs.Walks.{InBounds}
-use Rattle.lists.proofs.Local.{past}
+use Rattle.lists.specs.Yields.{Unrefused, handedOut}
+use Rattle.lists.specs.declared.Walk.{Walk}
+use Rattle.lists.proofs.ConvertLaws.{start-length-is, opened-list}
+use Rattle.lists.proofs.Past.{listed-past}
 use Rattle.lists.proofs.WalkLaws.{Moved, met-entry, met-end}
 use Rattle.coverage.specs.Ranges.{Range, limit}
 use Rattle.coverage.specs.Covered.{yieldedIn, traceOf, yieldedOf, canonicalEncoding, readBack}
 use Rattle.coverage.proofs.Small.{Small}
+use Rattle.coverage.proofs.CallLaws.{trace-is, yielded-is}
+use Rattle.coverage.proofs.CoveredLaws.{yielded-all}
 use Rattle.bytes.specs.Written.{littleBytes, unsignedBytes}
 use Rattle.canonical.specs.Canonical.{entryBytes, canonicalBytes}
-use Rattle.bytes.proofs.WrittenLaws.{length-little, little-back, unsigned-back, append-bytes, little-bytes, unsigned-bytes}
+use Rattle.bytes.proofs.WrittenLaws.{length-little, little-back, unsigned-there, append-bytes, little-bytes, unsigned-bytes}
 
 -- an entry's bytes with what follows them
 spread : Range → List ℕ → List ℕ
@@ -50,18 +54,14 @@ entry-length : (r : Range) → length (entryBytes r) ≡ 9 + length (unsignedByt
 unfolding entryBytes
 entry-length r = rw (length-append, length-little) (omega arith)
 
-size-8 : isSize 8 ≡ true
-unfolding isSize
-size-8 = refl
-
 module _ (format : Format) (r : Range) (rest : List ℕ) (small : InBounds 8 (r .0) (r .1)) where
   spread-length : length (spread r rest) ≡ 9 + length (unsignedBytes (r .1 - r .0) ++ rest)
   unfolding spread
   spread-length = rw (length-append (littleBytes 8 (r .0)) (unsignedBytes (r .1 - r .0) ++ rest), length-little) (omega arith)
 
   code-back : uint Little 1 (spread r rest) 0 ≡ gives (got 7 1)
-  unfolding spread little
-  code-back = uint-got Little 1 (spread r rest) 0 (omega (arith, spread-length))
+  unfolding spread
+  code-back = uint-got Little 1 (spread r rest) 0 (omega (arith, spread-length)) ∙ ap (λ (n : ℕ). gives (got n 1)) (little-one 7)
 
   begin-back : address Little 8 (spread r rest) 1 ≡ gives (got (r .0) 9)
   unfolding spread
@@ -72,13 +72,17 @@ module _ (format : Format) (r : Range) (rest : List ℕ) (small : InBounds 8 (r 
       ∙ ap (λ (n : ℕ). gives (got n 9)) (little-back 8 (r .0) (omega arith))
 
   length-back : unsigned (spread r rest) 9 ≡ gives (got (r .1 - r .0) (9 + length (unsignedBytes (r .1 - r .0))))
-  unfolding spread littleBytes unsigned
-  length-back = unsigned-back 0 9 (r .1 - r .0) 9 rest refl (omega arith)
+  unfolding spread
+  length-back =
+      unsigned-there (spread r rest) 9 (r .1 - r .0) rest (omega arith)
+      (drop-at (littleBytes 8 (r .0)) (unsignedBytes (r .1 - r .0) ++ rest) 8 (length-little 8 (r .0)))
 
   -- the raw entry of a range
   entry-back : rangeEntry (canonicalEncoding format) Little (spread r rest) ≡ gives (got (entry (StartLength (r .0) (r .1 - r .0))) (9 + length (unsignedBytes (r .1 - r .0))))
-  unfolding coded kindOf rangeKinds
-  entry-back = range-coded (canonicalEncoding format) Little (spread r rest) (omega arith) ∙ rw (code-back, begin-back, length-back)
+  entry-back =
+      range-coded (canonicalEncoding format) Little (spread r rest) (omega arith)
+      ∙ start-length-range (canonicalEncoding format) Little (spread r rest) code-back
+      ∙ rw (begin-back, length-back)
 
 -- no entry is the end mark, and no other entry begins the same bytes
 pub entry-no-mark : (r : Range) (rest : List ℕ) → entryBytes r ++ rest ≡ 0 ∷ [] → ⊥
@@ -102,15 +106,15 @@ entry-once r q x y small other e =
 
 -- the raw entry of the end mark
 end-back : (format : Format) → rangeEntry (canonicalEncoding format) Little (0 ∷ []) ≡ gives (got stop 1)
-unfolding coded kindOf rangeKinds little
-end-back format = range-coded (canonicalEncoding format) Little (0 ∷ []) (omega arith) ∙ rw (uint-got Little 1 (0 ∷ []) 0 (omega arith))
+end-back format =
+    range-coded (canonicalEncoding format) Little (0 ∷ []) (omega arith)
+    ∙ end-of-ranges (canonicalEncoding format) Little (0 ∷ []) (uint-got Little 1 (0 ∷ []) 0 (omega arith) ∙ ap (λ (n : ℕ). gives (got n 1)) (little-one 0))
 
 -- what the entry comes to
 turn-back : (table : DebugAddrIndex → Result ℕ) (base b e : ℕ) → InBounds 8 b e → gives (range b e) ≡ convert table 8 base (StartLength b (e - b))
-unfolding convert
 turn-back table base b e small =
     let s : addSized b (e - b) 8 ≡ e = omega arith in
-    rw (s, lt-leb (2 ^ 64 - 2) b (small .1), lt-leb e b (small .0))
+    rw (start-length-is table 8 base b (e - b), s, lt-leb (2 ^ 64 - 2) b (small .1), lt-leb e b (small .0))
 
 -- what a canonical list does: it hands out each range, with the walk after its entry; then it is over
 abbrev pub handsOut : ℕ → ℕ → ℕ → List Range → Trace Unit
@@ -125,7 +129,7 @@ bytes-some (r ∷ rs) = omega (arith, length-append (entryBytes r) (canonicalByt
 
 module _ (format : Format) (s : List ℕ) (table : DebugAddrIndex → Result ℕ) (base : ℕ) where
   moves : (at : ℕ) → at < length s → Moved at (length s) (rawRange (canonicalEncoding format) Little s at)
-  moves = past _ Unit (λ e. e) (λ e. tt) (rawRange (canonicalEncoding format) Little) (range-took (canonicalEncoding format) Little) s
+  moves = listed-past false false (canonicalEncoding format) Little s
 
   inside : (rs : List Range) (at : ℕ) → drop at s ≡ canonicalBytes rs → at < length s
   inside rs at d = omega (arith, length-drop at s, ap length d, bytes-some rs)
@@ -173,16 +177,24 @@ canonical-bytes [] small (suc i) = omega arith
 canonical-bytes (r ∷ rs) small i = append-bytes (entryBytes r) (canonicalBytes rs) (entry-bytes r (small .0)) (canonical-bytes rs (small .1)) i
 
 -- what a canonical list yields
-handed-yields : (room len base at : ℕ) (rs : List Range) → length rs ≤ room → yieldedIn room (handsOut len base at rs) ≡ gives rs
-unfolding yieldedIn
-handed-yields room len base at [] h = refl
-handed-yields zero len base at (r ∷ rs) h = absurd (omega arith)
-handed-yields (suc room) len base at (r ∷ rs) h = ap (mapped (λ qs. (r .0, r .1) ∷ qs)) (handed-yields room len base _ rs (omega arith))
+out-unrefused : (len base at : ℕ) (rs : List Range) → Unrefused (handsOut len base at rs)
+out-unrefused len base at [] = tt
+out-unrefused len base at (r ∷ rs) = out-unrefused len base (at + length (entryBytes r)) rs
+
+out-ranges : (len base at : ℕ) (rs : List Range) → handedOut (handsOut len base at rs) ≡ rs
+out-ranges len base at [] = refl
+out-ranges len base at (r ∷ rs) = ap (λ (l : List Range). r ∷ l) (out-ranges len base (at + length (entryBytes r)) rs)
+
+out-yields : (len base : ℕ) (rs : List Range) → length rs ≤ limit → yieldedIn limit (handsOut len base 0 rs) ≡ gives rs
+out-yields len base rs few =
+    let e = out-ranges len base 0 rs in
+    yielded-all limit (handsOut len base 0 rs) (out-unrefused len base 0 rs) (rw e few) ∙ ap gives e
 
 pub canonical-yields : (format : Format) (rs : List Range) → Small rs → length rs ≤ limit → (base : ℕ) (table : List ℕ) (tableBase : DebugAddrBase)
     → yieldedOf (readBack format (canonicalBytes rs) base table tableBase) ≡ gives rs
-unfolding yieldedOf traceOf opened isSize
 canonical-yields format rs small few base table tableBase =
-    rw (le-leb 0 (length (canonicalBytes rs)) (omega arith))
-    (ap (yieldedIn limit) (walked-back format rs small (tableAt Little (canonicalEncoding format) tableBase table) base)
-    ∙ handed-yields limit (length (canonicalBytes rs)) base 0 rs few)
+    let x = readBack format (canonicalBytes rs) base table tableBase in
+    yielded-is x
+    ∙ ap (λ (o : Result Walk). andThen o (λ w. yieldedIn limit (traceOf x w))) (opened-list (canonicalEncoding format) (canonicalBytes rs) 0 base size-8 (omega arith))
+    ∙ ap (yieldedIn limit) (trace-is x (walkAt 0 base) ∙ walked-back format rs small (tableAt Little (canonicalEncoding format) tableBase table) base)
+    ∙ out-yields (length (canonicalBytes rs)) base rs few

@@ -17,7 +17,7 @@ use Rattle.bytes.proofs.WrittenLaws.{length-little}
 use Rattle.bytes.proofs.PutLaws.{sets-append, put-room}
 use Rattle.coverage.specs.Kept.{firsts}
 use Rattle.canonical.specs.Arrays.{Arrays}
-use Rattle.canonical.proofs.Unsigned.{unsigned-length}
+use Rattle.bytes.proofs.WrittenLaws.{unsigned-length}
 
 -- the bytes of a first range
 bytes-first : (r : Range) (rs : List Range)

@@ -8,6 +8,7 @@ use Rattle.coverage.specs.Ranges.{Range}
 use Rattle.coverage.specs.Covered.{Source, coverageOf, Bytes}
 use Rattle.canonical.specs.Canonical.{canonicalBytes, canonicalOf}
 use Rattle.coverage.specs.Output.{output, written}
+use Rattle.coverage.proofs.OutputLaws.{written-refused}
 use Rattle.coverage.specs.Told.{Answer, made}
 use Rattle.canonical.proofs.Sources.{kept-canonical}
 use Rattle.canonical.specs.Made.{canonicalMade}
@@ -22,5 +23,4 @@ made-canonical x b q = ap canonicalMade q ∙ by-coverage x (coverageOf x) b ref
 
 -- a refusal leaves the output as it was
 pub refused-written : (n : ℕ) (vs out : List ℕ) → output (refused n vs) out ≡ written (refused n vs) out
-unfolding written
-refused-written n vs out = refl
+refused-written n vs out = sym (written-refused n vs out)

@@ -7,6 +7,7 @@ use mathlib.Core.Logic.{_↔_}
 use Prim.Native.Nat.{ℕ, _≤_, _<_}
 use native.Mathlib.Omega.{arith}
 use lib.ListN.{length, getD}
+use Rattle.coverage.proofs.CallLaws.{coverage-is}
 use Rattle.coverage.proofs.CoveredLaws.{mapped}
 use Rattle.bytes.specs.Read.{Result, gives, refused, pick}
 use Rattle.bytes.specs.declared.common.DebugAddrBase.{DebugAddrBase}
@@ -45,8 +46,7 @@ module _ (x : Source) {xs rs : List Range} (yielded : yieldedOf x ≡ gives xs) 
 
 module _ (x : Source) {rs : List Range} (covered : coverageOf x ≡ gives rs) where
   yielded-runs : (xs : List Range) × (yieldedOf x ≡ gives xs) × (runs xs ≡ rs)
-  unfolding coverageOf
-  yielded-runs = mapped-gives runs (yieldedOf x) covered
+  yielded-runs = mapped-gives runs (yieldedOf x) (sym (coverage-is x) ∙ covered)
 
   -- they cover what the list covers
   pub source-covers : (a : ℕ) → Covers rs a ↔ CoveredBy x a
@@ -68,8 +68,7 @@ module _ {rs : List Range} (l : Lawful rs) where
     back-bytes h = record { section = canonical-bytes rs (l .small); table = h }
 
     pub back-again : coverageOf (readBack format (canonicalBytes rs) base table tableBase) ≡ gives rs
-    unfolding coverageOf
-    back-again = ap (mapped runs) back-yields ∙ ap gives (runs-same rs (l .apart) (apart-proper 0 rs (l .apart)))
+    back-again = coverage-is (readBack format (canonicalBytes rs) base table tableBase) ∙ ap (mapped runs) back-yields ∙ ap gives (runs-same rs (l .apart) (apart-proper 0 rs (l .apart)))
 
   -- no other lawful ranges have these bytes
   pub bytes-tell : {qs : List Range} → Lawful qs → canonicalBytes rs ≡ canonicalBytes qs → rs ≡ qs

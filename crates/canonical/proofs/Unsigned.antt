@@ -1,8 +1,7 @@
 -- An unsigned LEB128 form counted and written byte by byte: what is left of it, with what is done, is the same all along.
 -- Assumes nothing.
 use mathlib.Core.Path.{_≡_, refl, _∙_}
-use mathlib.Core.List.{List, [], _∷_}
-use mathlib.Core.Logic.{⊎-elim}
+use mathlib.Core.List.{List, _∷_}
 use Prim.Native.Nat.{ℕ, zero, suc, _+_, _*_, _/_, _%_, _^_, _≤_, _<_}
 use native.Mathlib.Nat.{pow-suc}
 use native.Mathlib.Numerals.{add-one}
@@ -10,21 +9,13 @@ use native.Mathlib.Omega.{arith}
 use lib.ListN.{length, set, length-set}
 use lib.Seq.{sets}
 use Rattle.bytes.specs.Written.{unsignedIn, unsignedBytes}
-use Rattle.bytes.proofs.Order.{lt-or-le}
-use Rattle.bytes.proofs.WrittenLaws.{unsigned-short, unsigned-long, one-byte}
+use Rattle.bytes.proofs.WrittenLaws.{unsigned-last, unsigned-long, unsigned-length}
 
 -- a byte and those after it, of a number that k bytes and one more hold
 unsigned-more : (k x : ℕ) → 128 ≤ x → x < 2 * 128 ^ k
     → (j : ℕ) × (unsignedIn k x ≡ (x % 128 + 128) ∷ unsignedIn j (x / 128)) × (x / 128 < 2 * 128 ^ j)
 unsigned-more zero x h s = absurd (omega arith)
 unsigned-more (suc k) x h s = let l : x < 2 * (128 ^ k * 128) = rw pow-suc at s in (k, unsigned-long k x h, omega arith)
-
-pub unsigned-length : (k x : ℕ) → (1 ≤ length (unsignedIn k x)) × (length (unsignedIn k x) ≤ suc k)
-unfolding unsignedIn
-unsigned-length zero x = omega arith
-unsigned-length (suc k) x =
-    let rest = unsigned-length k (x / 128) in
-    ⊎-elim (λ h. rw (unsigned-short k x h) (omega arith)) (λ h. rw (unsigned-long k x h) (omega arith)) (lt-or-le x 128)
 
 -- of x are left the bytes of rest, of which n counts the first
 pub record Counted (x n rest : ℕ) : Type 0 where
@@ -47,7 +38,7 @@ module _ {x n rest : ℕ} (t : Counted x n rest) where
 
   pub counted-end : rest < 128 → n ≡ length (unsignedBytes x)
   counted-end h =
-      let q : n + 1 ≡ 1 + length (unsignedBytes x) = rw (one-byte (t .k) rest h) at (t .same) in
+      let q : n + 1 ≡ 1 + length (unsignedBytes x) = rw (unsigned-last (t .k) rest h) at (t .same) in
       omega arith
 
 -- at p are still to be written the bytes of rest
@@ -82,4 +73,4 @@ module _ {l₀ l : List ℕ} {at x p rest : ℕ} (t : Left l₀ at x l p rest) w
       }
 
   pub left-end : rest < 128 → (p + 1 ≡ at + length (unsignedBytes x)) × (set l p rest ≡ sets l₀ at (unsignedBytes x))
-  left-end h = (rw (one-byte (t .k) rest h) at (t .place), rw (one-byte (t .k) rest h) at (t .same))
+  left-end h = (rw (unsigned-last (t .k) rest h) at (t .place), rw (unsigned-last (t .k) rest h) at (t .same))

@@ -1,5 +1,6 @@
 // The canonical list of a range list or a location list in one call.
 use bytes::common::DebugAddrBase;
+use bytes::common::DwarfFileType;
 use bytes::common::Encoding;
 use bytes::common::LocationListsOffset;
 use bytes::common::RangeListsOffset;
@@ -8,6 +9,7 @@ use coverage::Made;
 use coverage::Verdict;
 use coverage::Wrote;
 ghost use mathlib.Core.Path.{_≡_};
+ghost use Rattle.bytes.specs.Common.{isSplit};
 ghost use Rattle.canonical.specs.Canonical.{canonicalOf};
 ghost use Rattle.coverage.specs.Covered.{rangeList, locationList, source};
 ghost use Rattle.coverage.specs.Output.{output, written};
@@ -62,10 +64,10 @@ pub fn canonical_locations(
     base_address: u64,
     encoding: Encoding,
     endian: RunTimeEndian,
-    split: bool,
+    file_type: DwarfFileType,
     out: &mut [u8],
 ) -> Wrote
-    ensures { λ r. ⌜ output (toldWrote r) (now (out .exit)) ≡ written (canonicalOf (source (locationList split) encoding endian (now (section .entry)) (offset .0) «base_address» (now («debug_addr» .entry)) «debug_addr_base»)) (now (out .entry)) ⌝ }
+    ensures { λ r. ⌜ output (toldWrote r) (now (out .exit)) ≡ written (canonicalOf (source (locationList (isSplit «file_type»)) encoding endian (now (section .entry)) (offset .0) «base_address» (now («debug_addr» .entry)) «debug_addr_base»)) (now (out .entry)) ⌝ }
 {
     let made = coverage::collect::location_coverage(
         section,
@@ -75,7 +77,7 @@ pub fn canonical_locations(
         base_address,
         encoding,
         endian,
-        split,
+        file_type,
     );
     canonical_made(made, out)
 }

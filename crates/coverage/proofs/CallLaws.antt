@@ -3,15 +3,17 @@
 use mathlib.Core.Path.{_≡_, refl, sym, ap}
 use mathlib.Core.List.{List, [], _∷_, _++_, append-assoc, append-nil}
 use Prim.Native.Nat.{ℕ, zero, suc}
+use lib.ListN.{length}
 use Rattle.coverage.proofs.CoveredLaws.{mapped}
-use Rattle.bytes.specs.Read.{Result, gives, refused}
+use Rattle.bytes.specs.Read.{Result, gives, refused, andThen}
 use Rattle.bytes.specs.Error.{refusal}
 use Rattle.bytes.specs.declared.error.Error.the-variants.{TooManyRanges}
 use Rattle.lists.specs.Open.{opened}
-use Rattle.lists.specs.Walk.{Item, item, Trace, over, handed}
+use Rattle.lists.specs.Convert.{tableAt}
+use Rattle.lists.specs.Walk.{Item, item, Trace, over, trace, handed}
 use Rattle.lists.specs.declared.Walk.{Walk}
 use Rattle.coverage.specs.Ranges.{Range, limit, runs}
-use Rattle.coverage.specs.Covered.{yieldedIn, Source, traceOf, yieldedOf, coverageOf}
+use Rattle.coverage.specs.Covered.{yieldedIn, Source, listed, traceOf, yieldedOf, coverageOf}
 
 -- the ranges gathered so far, and those still to come
 abbrev pub after : List Range → Result (List Range) → Result (List Range)
@@ -50,6 +52,19 @@ module _ {D : Type 0} (t : Trace D) where
 
 -- the coverage of a list from its opening on
 module _ (x : Source) where
+  pub trace-is : (w : Walk)
+      → traceOf x w ≡ trace (listed (x .holds) (x .encoding) (x .endian) (x .section)) (tableAt (x .endian) (x .encoding) (x .«table_base») (x .table)) (x .encoding .«address_size») (length (x .section)) w
+  unfolding traceOf
+  trace-is w = refl
+
+  pub yielded-is : yieldedOf x ≡ andThen (opened (x .encoding) (x .section) (x .offset) (x .«base_address»)) (λ w. yieldedIn limit (traceOf x w))
+  unfolding yieldedOf
+  yielded-is = refl
+
+  pub coverage-is : coverageOf x ≡ mapped runs (yieldedOf x)
+  unfolding coverageOf
+  coverage-is = refl
+
   pub coverage-refused : {n : ℕ} {vs : List ℕ} → opened (x .encoding) (x .section) (x .offset) (x .«base_address») ≡ refused n vs → coverageOf x ≡ refused n vs
   unfolding coverageOf yieldedOf
   coverage-refused e = rw e

@@ -7,7 +7,7 @@ use native.Mathlib.Omega.{arith}
 use native.Mathlib.Numerals.{add-one}
 use lib.Dec.{leb, ltb}
 use lib.ListN.{length, take, drop, getD, replicate, length-take, length-append, length-replicate, drop-of-length-le}
-use lib.Seq.{drop-cons, getD-take, take-append-seam}
+use lib.Seq.{drop-cons, getD-take, take-append-seam, take-at}
 use borrow.Author.Tests.{le-leb, lt-leb, lt-ltb, le-ltb, leb-true, ltb-true}
 use Rattle.bytes.specs.Address.{minTombstone}
 use Rattle.coverage.specs.Ranges.{Range, From, Apart, limit}
@@ -74,6 +74,27 @@ ends-paired [] [] h = refl
 ends-paired [] (e ∷ es) h = absurd (omega arith)
 ends-paired (b ∷ bs) [] h = absurd (omega arith)
 ends-paired (b ∷ bs) (e ∷ es) h = ap (λ (l : List ℕ). e ∷ l) (ends-paired bs es (omega arith))
+
+-- what the definitions say, for proofs above this crate
+pub ranges-are : (c : Coverage) → rangesOf c ≡ firsts (c .n) (c .begins) (c .ends)
+unfolding rangesOf
+ranges-are c = refl
+
+pub padded-is : (l : List ℕ) → padded l ≡ l ++ replicate (limit - length l) 0
+unfolding padded
+padded-is l = refl
+
+pub take-padded : (l : List ℕ) {n : ℕ} → length l ≡ n → take n (padded l) ≡ l
+unfolding padded
+take-padded l {n} e = take-at l _ n e
+
+pub kept-none : keptAs [] ≡ record { n = 0; begins = replicate limit 0; ends = replicate limit 0 }
+unfolding keptAs padded
+kept-none = refl
+
+pub kept-paired : (bs es : List ℕ) → length bs ≡ length es → record { n = length bs; begins = padded bs; ends = padded es } ≡ keptAs (paired bs es)
+unfolding keptAs
+kept-paired bs es h = rw (length-paired bs es h, begins-paired bs es h, ends-paired bs es h)
 
 pub ranges-kept : (rs : List Range) → rangesOf (keptAs rs) ≡ rs
 unfolding rangesOf keptAs padded

@@ -4,6 +4,7 @@ use super::LIMIT;
 use super::Made;
 use super::Verdict;
 use bytes::common::DebugAddrBase;
+use bytes::common::DwarfFileType;
 use bytes::common::Encoding;
 use bytes::common::Format;
 use bytes::common::LocationListsOffset;
@@ -22,6 +23,7 @@ ghost use mathlib.Core.List.{[]};
 ghost use Rattle.bytes.specs.Read.{gives, andThen};
 ghost use Rattle.bytes.specs.Error.{refusal};
 ghost use Rattle.bytes.specs.declared.common.Format.the-variants.{Dwarf32};
+ghost use Rattle.bytes.specs.Common.{isSplit};
 ghost use Rattle.bytes.specs.Reader.{isSize};
 ghost use Rattle.lists.specs.Convert.{tableAt};
 ghost use Rattle.lists.specs.Walk.{trace, listed};
@@ -265,10 +267,11 @@ pub fn location_coverage(
     base_address: u64,
     encoding: Encoding,
     endian: RunTimeEndian,
-    split: bool,
+    file_type: DwarfFileType,
 ) -> Made
-    ensures { λ r. ⌜ toldMade r ≡ made (coverageOf (source (locationList split) encoding endian (now (section .entry)) (offset .0) «base_address» (now («debug_addr» .entry)) «debug_addr_base»)) ⌝ }
+    ensures { λ r. ⌜ toldMade r ≡ made (coverageOf (source (locationList (isSplit «file_type»)) encoding endian (now (section .entry)) (offset .0) «base_address» (now («debug_addr» .entry)) «debug_addr_base»)) ⌝ }
 {
+    let split = file_type.is_split();
     list_coverage(
         section,
         debug_addr,

@@ -1,7 +1,7 @@
 -- The raw entry at a place, a step of the reader at a time. Assumes nothing.
 use mathlib.Core.Path.{_≡_, sym, ap, _∙_, fun-ext}
 use mathlib.Core.Bool.{Bool, true, false}
-use mathlib.Core.List.{List}
+use mathlib.Core.List.{List, [], _∷_}
 use Prim.Native.Nat.{ℕ, _-_, _≤_, _<_}
 use native.Mathlib.Omega.{arith}
 use lib.ListN.{length, take, drop, length-drop}
@@ -17,7 +17,8 @@ use Rattle.bytes.specs.declared.endianity.RunTimeEndian.the-variants.{Little}
 use Rattle.bytes.specs.declared.error.Error.{Error}
 use Rattle.bytes.specs.declared.Num.{Num}
 use Rattle.bytes.specs.declared.Num.the-variants as num
-use Rattle.entries.specs.Forms.{Form, Takes, Raw, stop, entry, operands}
+use Rattle.entries.specs.Forms.{Form, address, number, Takes, Raw, stop, entry, operands}
+use Rattle.entries.specs.declared.RawRngListEntry.the-variants.{StartLength}
 use Rattle.entries.specs.Kinds.{Kind, unknown, rangeKinds, locationKinds, kindOf, ofKind, coded, isEnd, ofPair, bare, codedRange, bareRange, hasKinds, codedLocation, bareLocation, rangeEntry, locationEntry, moved, rawAt}
 
 -- the code's byte, and the kind that it stands for
@@ -33,6 +34,16 @@ module _ {E : Type 0} (p : Encoding) (endian : RunTimeEndian) (start : ℕ) (s :
   pub code-unknown : {code c : ℕ} → r ≡ num.Got code c → kinds code ≡ unknown → coded p endian start s unknownEntry kinds ≡ refusal (unknownEntry code)
   unfolding coded
   code-unknown q e = rw (← h, q, e)
+
+-- an entry by its code: a start and a length, or the end mark
+module _ (p : Encoding) (endian : RunTimeEndian) (s : List ℕ) {c : ℕ} where
+  pub start-length-range : uint Little 1 s 0 ≡ gives (got 7 c) → codedRange p endian s ≡ operands p endian 0 s (address ∷ number ∷ []) StartLength c
+  unfolding coded kindOf rangeKinds
+  start-length-range q = rw q
+
+  pub end-of-ranges : uint Little 1 s 0 ≡ gives (got 0 c) → codedRange p endian s ≡ gives (got stop c)
+  unfolding coded kindOf rangeKinds
+  end-of-ranges q = rw q
 
 -- codes without a kind
 pub no-range-kind : (k : ℕ) → (k ≡ 0 → ⊥) → (k ≡ 1 → ⊥) → (k ≡ 2 → ⊥) → (k ≡ 3 → ⊥) → (k ≡ 4 → ⊥) → (k ≡ 5 → ⊥) → (k ≡ 6 → ⊥) → (k ≡ 7 → ⊥)

@@ -4,11 +4,13 @@ use super::constants;
 use super::raw::Head;
 use super::raw::passed;
 use bytes::Num;
+use bytes::common::DwarfFileType;
 use bytes::common::Encoding;
 use bytes::endianity::RunTimeEndian;
 use bytes::error::Error;
 ghost use mathlib.Core.Path.{_≡_};
 ghost use Prim.Native.Nat.{ℕ};
+ghost use Rattle.bytes.specs.Common.{isSplit};
 ghost use Rattle.bytes.specs.declared.common.Encoding.{Encoding};
 ghost use Rattle.bytes.specs.declared.endianity.RunTimeEndian.{RunTimeEndian};
 ghost use Rattle.entries.specs.Told.{stepOf, toldLocation};
@@ -114,9 +116,10 @@ pub fn raw_location_entry(
     at: usize,
     encoding: Encoding,
     endian: RunTimeEndian,
-    split: bool,
+    file_type: DwarfFileType,
 ) -> LocationStep
-    ensures { λ r. ⌜ toldLocation r ≡ stepOf (rawLocation split encoding endian (now (section .entry)) at) ⌝ }
+    ensures { λ r. ⌜ toldLocation r ≡ stepOf (rawLocation (isSplit «file_type») encoding endian (now (section .entry)) at) ⌝ }
 {
+    let split = file_type.is_split();
     super::raw::raw_entry(section, at, encoding, endian, true, split)
 }

@@ -1,5 +1,5 @@
 -- Conversion, a case at a time, for a size as parameter; and the raw calls of a walk.
-use mathlib.Core.Path.{_≡_}
+use mathlib.Core.Path.{_≡_, refl}
 use mathlib.Core.Bool.{true, false}
 use mathlib.Core.List.{List}
 use Prim.Native.Nat.{ℕ, _≤_, _<_}
@@ -19,6 +19,7 @@ use Rattle.tables.specs.declared.addr.AddressAnswer.{AddressAnswer}
 use Rattle.tables.specs.declared.addr.AddressAnswer.the-variants as address
 use Rattle.entries.specs.Forms.{Raw}
 use Rattle.entries.specs.declared.RawRngListEntry.{RawRngListEntry}
+use Rattle.entries.specs.declared.RawRngListEntry.the-variants.{StartLength}
 use Rattle.entries.specs.Told.{found, ended, stepOf}
 use Rattle.entries.proofs.StepLaws.{step-found, step-ended, step-failed}
 use Rattle.lists.specs.Open.{walkAt, opened, sectionFor}
@@ -43,6 +44,11 @@ module _ (size : ℕ) {t : ℕ} (f : t ≡ minTombstone size) where
 
   pub base-added : (base b e : ℕ) {x y : ℕ} → base < t → x ≡ addSized base b size → y ≡ addSized base e size → bounded size x y ≡ offsets size base b e
   base-added base b e h p q = rw (p, q, ← f) (simp (lt-leb _ _ h))
+
+-- a start and a length
+pub start-length-is : (table : DebugAddrIndex → Result ℕ) (size base b n : ℕ) → convert table size base (StartLength b n) ≡ bounded size b (addSized b n size)
+unfolding convert
+start-length-is table size base b n = refl
 
 -- a lookup that a call answered as r
 module _ {r : AddressAnswer} {d : Result ℕ} (f : ℕ → Result Turn) (p : toldAddress r ≡ d) where

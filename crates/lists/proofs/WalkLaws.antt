@@ -2,6 +2,7 @@
 use mathlib.Core.Path.{_≡_, refl, sym, ap, _∙_}
 use mathlib.Core.Bool.{Bool, true, false}
 use mathlib.Core.List.{List}
+use mathlib.Core.Logic.{⊎-elim}
 use Prim.Native.Nat.{ℕ, zero, suc, _+_, _≤_, _<_}
 use native.Mathlib.Omega.{arith}
 use lib.Dec.{leb}
@@ -11,6 +12,7 @@ use Rattle.bytes.specs.Read.{Result, gives, refused, got, Read, pick}
 use Rattle.bytes.specs.Reader.{isSize}
 use Rattle.bytes.specs.declared.common.DebugAddrIndex.{DebugAddrIndex}
 use Rattle.bytes.specs.declared.error.Error.the-variants.{UnsupportedAddressSize}
+use Rattle.bytes.proofs.Order.{lt-or-le}
 use Rattle.tables.specs.Next.{hands}
 use Rattle.entries.specs.Forms.{Raw, stop, entry}
 use Rattle.lists.specs.Open.{walkAt}
@@ -73,6 +75,22 @@ module _ (l : Listing) (table : DebugAddrIndex → Result ℕ) (size len : ℕ) 
           trace-step h
           ∙ ap (λ (r : Read (Raw (l .Entry))). onRead l table size len base r (λ c b. trace l table size len (walkAt c b))) q
           ∙ ap (λ (x : Result Turn). onTurn x (l .carried e) c base (λ c b. trace l table size len (walkAt c b))) (sym p)
+
+-- what holds of a list that is over, and of an entry and what follows it where it holds of all that may follow, holds of every walk
+module _ (l : Listing) (table : DebugAddrIndex → Result ℕ) (size len : ℕ) (past : (at : ℕ) → at < len → Moved at len (l .read at))
+    (P : ℕ → ℕ → Trace (l .Carried) → Type 0) (none : (at base : ℕ) → len ≤ at → P at base (over (walkAt at base)))
+    (more : (at base : ℕ) → at < len → ((c b : ℕ) → at < c → P c b (trace l table size len (walkAt c b)))
+    → P at base (onRead l table size len base (l .read at) (λ c b. trace l table size len (walkAt c b)))) where
+  from-ind : (n at base : ℕ) → len ≤ at + n → P at base (trace l table size len (walkAt at base))
+  from-ind zero at base h = rw (trace-over l table size len past at base (omega arith)) (none at base (omega arith))
+  from-ind (suc n) at base h =
+      ⊎-elim
+      (λ k. rw (trace-step l table size len past at base k) (more at base k (λ c b d. from-ind n c b (omega arith))))
+      (λ k. rw (trace-over l table size len past at base k) (none at base k))
+      (lt-or-le at len)
+
+  pub trace-ind : (w : Walk) → P (w .at) (w .«base_address») (trace l table size len w)
+  trace-ind w = from-ind len (w .at) (w .«base_address») (omega arith)
 
 module _ (l : Listing) (table : DebugAddrIndex → Result ℕ) (size len : ℕ) (w : Walk) where
   pub next-first : isSize size ≡ true → next l table size len w ≡ first (trace l table size len w)

@@ -3,6 +3,7 @@ use super::LocationListEntry;
 use super::Opened;
 use super::Walk;
 use bytes::common::DebugAddrBase;
+use bytes::common::DwarfFileType;
 use bytes::common::Encoding;
 use bytes::common::LocationListsOffset;
 use bytes::endianity::RunTimeEndian;
@@ -11,6 +12,7 @@ use entries::Expression;
 use entries::RawLocListEntry;
 ghost use mathlib.Core.Path.{_≡_};
 ghost use Rattle.lists.specs.Open.{toldOpened, opened, sectionFor};
+ghost use Rattle.bytes.specs.Common.{isSplit};
 ghost use Rattle.bytes.specs.Reader.{partOf};
 ghost use Rattle.lists.specs.Walk.{toldRawLocation, nextRawLocation, toldConvertedLocation, convertedLocation, toldNextLocation, nextLocation};
 
@@ -56,10 +58,11 @@ pub fn next_raw(
     walk: Walk,
     encoding: Encoding,
     endian: RunTimeEndian,
-    split: bool,
+    file_type: DwarfFileType,
 ) -> RawLocationAnswer
-    ensures { λ r. ⌜ toldRawLocation r ≡ nextRawLocation split encoding endian (now (section .entry)) walk ⌝ }
+    ensures { λ r. ⌜ toldRawLocation r ≡ nextRawLocation (isSplit «file_type») encoding endian (now (section .entry)) walk ⌝ }
 {
+    let split = file_type.is_split();
     super::listed::next_raw(section, walk, encoding, endian, true, split)
 }
 
@@ -109,10 +112,11 @@ pub fn next(
     walk: Walk,
     encoding: Encoding,
     endian: RunTimeEndian,
-    split: bool,
+    file_type: DwarfFileType,
 ) -> LocationAnswer
-    ensures { λ r. ⌜ toldNextLocation r ≡ nextLocation split encoding endian (now (section .entry)) (now («debug_addr» .entry)) «debug_addr_base» walk ⌝ }
+    ensures { λ r. ⌜ toldNextLocation r ≡ nextLocation (isSplit «file_type») encoding endian (now (section .entry)) (now («debug_addr» .entry)) «debug_addr_base» walk ⌝ }
 {
+    let split = file_type.is_split();
     super::listed::next(
         section,
         debug_addr,

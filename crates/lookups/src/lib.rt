@@ -1,5 +1,6 @@
 // The first range of a list that holds an address; in a location list, with its expression.
 use bytes::common::DebugAddrBase;
+use bytes::common::DwarfFileType;
 use bytes::common::Encoding;
 use bytes::common::LocationListsOffset;
 use bytes::common::RangeListsOffset;
@@ -12,6 +13,7 @@ use lists::Walk;
 use lists::loclists::LocationAnswer;
 ghost use mathlib.Core.Path.{_≡_};
 ghost use mathlib.Core.Bool.{true, false};
+ghost use Rattle.bytes.specs.Common.{isSplit};
 ghost use Rattle.bytes.specs.Reader.{isSize};
 ghost use Rattle.lookups.specs.Lookup.{holds as holdsAt, foundIn, lookupFrom, toldRange, lookupRange, toldLocation, lookupLocation};
 
@@ -139,23 +141,26 @@ pub fn lookup_location(
     base_address: u64,
     encoding: Encoding,
     endian: RunTimeEndian,
-    split: bool,
+    file_type: DwarfFileType,
     address: u64,
 ) -> LocationFound
-    ensures { λ r. ⌜ toldLocation r ≡ lookupLocation split encoding endian (now (section .entry)) (now («debug_addr» .entry)) «debug_addr_base» (offset .0) «base_address» address ⌝ }
+    ensures { λ r. ⌜ toldLocation r ≡ lookupLocation (isSplit «file_type») encoding endian (now (section .entry)) (now («debug_addr» .entry)) «debug_addr_base» (offset .0) «base_address» address ⌝ }
 {
     match lists::loclists::locations(section, offset, encoding, base_address) {
         Opened::Refused(e) => LocationFound::Refused(e),
-        Opened::List(start) => found_from(
-            section,
-            debug_addr,
-            debug_addr_base,
-            start,
-            encoding,
-            endian,
-            true,
-            split,
-            address,
-        ),
+        Opened::List(start) => {
+            let split = file_type.is_split();
+            found_from(
+                section,
+                debug_addr,
+                debug_addr_base,
+                start,
+                encoding,
+                endian,
+                true,
+                split,
+                address,
+            )
+        }
     }
 }

@@ -6,7 +6,7 @@ use Prim.Native.Nat.{ℕ, _+_, _*_, _≤_, _<_}
 use native.Mathlib.Omega.{arith}
 use lib.Dec.{leb, eqb}
 use lib.ListN.{length, take, drop}
-use lib.Seq.{sets, take-at}
+use lib.Seq.{sets}
 use borrow.Author.Tests.{le-leb, lt-leb, eq-eqb, ne-eqb}
 use Rattle.bytes.specs.Read.{gives}
 use Rattle.bytes.specs.Error.{number, values, refusal}
@@ -18,7 +18,7 @@ use Rattle.coverage.specs.Output.{output, written}
 use Rattle.coverage.specs.Told.{answer, made}
 use Rattle.coverage.specs.declared.Coverage.{Coverage}
 use Rattle.coverage.proofs.Checked.{lawful-few}
-use Rattle.coverage.proofs.KeptLaws.{take-paired, length-paired, begins-paired, ends-paired, sheet-test}
+use Rattle.coverage.proofs.KeptLaws.{take-paired, ranges-are, take-padded, kept-paired, sheet-test}
 use Rattle.sheets.proofs.SheetLaws.{sheet-kept, no-sheet-kept}
 use Rattle.coverage.proofs.OutputLaws.{written-refused, written-short}
 use Rattle.coverage.proofs.OutputLaws.{all-written}
@@ -32,17 +32,15 @@ module _ (c : Coverage) (l : List ℕ) where
 
   module _ (law : lawfulSheet c ≡ true) (lb : length (c .begins) ≡ limit) (le : length (c .ends) ≡ limit) where
     pub sheet-short : length l < 4 + 16 * c .n → output (refusal NoSpace) l ≡ written (sheetKept c) l
-    unfolding rangesOf
     sheet-short h =
         let e = sheet-length (c .begins) (c .ends) (c .n) (lawful-few c law) lb le in
-        rw (sheet-kept c law) (sym (written-short (sheetBytes (take (c .n) (paired (c .begins) (c .ends)))) l (omega arith)))
+        rw (sheet-kept c law, ranges-are c) (sym (written-short (sheetBytes (take (c .n) (paired (c .begins) (c .ends)))) l (omega arith)))
 
     pub sheet-written : {m : List ℕ} → 4 + 16 * c .n ≤ length l → m ≡ sets l 0 (sheetBytes (take (c .n) (paired (c .begins) (c .ends))))
         → output (gives (4 + 16 * c .n)) m ≡ written (sheetKept c) l
-    unfolding rangesOf
     sheet-written h q =
         let e = sheet-length (c .begins) (c .ends) (c .n) (lawful-few c law) lb le in
-        rw (sheet-kept c law) (all-written (sheetBytes (take (c .n) (paired (c .begins) (c .ends)))) l (sym e) h q)
+        rw (sheet-kept c law, ranges-are c) (all-written (sheetBytes (take (c .n) (paired (c .begins) (c .ends)))) l (sym e) h q)
 
 -- what is no sheet is refused
 module _ (bs : List ℕ) where
@@ -77,23 +75,18 @@ arrays n begins ends = record { n = n; begins = begins; ends = ends }
 abbrev readAs : ℕ → List ℕ → Coverage
 readAs n bs = arrays n (padded (addressesIn n (drop 4 bs))) (padded (addressesIn n (drop (4 + 8 * n) bs)))
 
-take-padded : (n : ℕ) (bs : List ℕ) → take n (padded (addressesIn n bs)) ≡ addressesIn n bs
-unfolding padded
-take-padded n bs = take-at (addressesIn n bs) _ n (length-in n bs)
-
 read-ranges : (n : ℕ) (bs : List ℕ) → rangesOf (readAs n bs) ≡ rangesIn n bs
-unfolding rangesOf
 read-ranges n bs =
-    take-paired n (padded (addressesIn n (drop 4 bs))) (padded (addressesIn n (drop (4 + 8 * n) bs)))
-    ∙ ap₂ paired (take-padded n (drop 4 bs)) (take-padded n (drop (4 + 8 * n) bs))
+    ranges-are (readAs n bs)
+    ∙ take-paired n (padded (addressesIn n (drop 4 bs))) (padded (addressesIn n (drop (4 + 8 * n) bs)))
+    ∙ ap₂ paired (take-padded (addressesIn n (drop 4 bs)) (length-in n (drop 4 bs))) (take-padded (addressesIn n (drop (4 + 8 * n) bs)) (length-in n (drop (4 + 8 * n) bs)))
 
 read-kept : (n : ℕ) (bs : List ℕ) → readAs n bs ≡ keptAs (rangesIn n bs)
-unfolding keptAs
 read-kept n bs =
     let b = addressesIn n (drop 4 bs) in
     let e = addressesIn n (drop (4 + 8 * n) bs) in
     let k : length b ≡ length e = length-in n (drop 4 bs) ∙ sym (length-in n (drop (4 + 8 * n) bs)) in
-    rw (length-paired b e k, begins-paired b e k, ends-paired b e k, length-in n (drop 4 bs))
+    ap (λ (m : ℕ). arrays m (padded b) (padded e)) (sym (length-in n (drop 4 bs))) ∙ kept-paired b e k
 
 module _ (bs : List ℕ) (few : countIn bs ≤ limit) (wide : widthIn bs ≡ 8) (long : length bs ≡ 4 + 16 * countIn bs) where
   head-read : isSheet (countIn bs) bs ≡ lawfulSheet (readAs (countIn bs) bs)

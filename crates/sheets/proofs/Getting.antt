@@ -1,6 +1,6 @@
 -- Addresses read one after another: those still to be read, over the numbers that stand there now, are the same all along.
 -- Assumes nothing.
-use mathlib.Core.Path.{_≡_, refl, ap, _∙_}
+use mathlib.Core.Path.{_≡_, refl, sym, ap, _∙_}
 use mathlib.Core.List.{List, [], _∷_, _++_}
 use Prim.Native.Nat.{ℕ, zero, suc, _+_, _-_, _*_, _≤_, _<_}
 use native.Mathlib.Numerals.{add-one}
@@ -10,6 +10,7 @@ use lib.Seq.{sets, sets-eq, drop-drop}
 use Rattle.bytes.specs.Endianity.{little}
 use Rattle.coverage.specs.Ranges.{limit}
 use Rattle.coverage.specs.Kept.{padded}
+use Rattle.coverage.proofs.KeptLaws.{padded-is}
 use Rattle.sheets.specs.Sheet.{addressesIn}
 
 abbrev zeros : ℕ → List ℕ
@@ -64,11 +65,11 @@ module _ {bs : List ℕ} {at n : ℕ} {l : List ℕ} {i p : ℕ} (t : Getting bs
           rw (e, addresses-first, drop-drop, q, add-one)
 
   pub getting-end : n ≤ i → l ≡ padded (addressesIn n (drop at bs))
-  unfolding padded
   getting-end h =
       let e : n - i ≡ 0 = omega arith in
       let c = length-in n (drop at bs) in
       let z : 0 + n ≡ n = omega arith in
       let s : l ≡ sets (zeros limit) 0 (addressesIn n (drop at bs)) = rw (e, addresses-none (drop p bs)) at (t .same) in
+      let d : drop (0 + length (addressesIn n (drop at bs))) (zeros limit) ≡ replicate (limit - length (addressesIn n (drop at bs))) 0 = rw (c, z) (drop-zeros n limit) in
       s ∙ sets-eq (addressesIn n (drop at bs)) (zeros limit) 0 (omega (arith, t .few, length-replicate {A = ℕ} limit 0))
-      ∙ ap (λ (m : List ℕ). addressesIn n (drop at bs) ++ m) (rw (c, z) (drop-zeros n limit))
+      ∙ ap (λ (m : List ℕ). addressesIn n (drop at bs) ++ m) d ∙ sym (padded-is (addressesIn n (drop at bs)))

@@ -10,11 +10,11 @@ use lib.ListN.{length, take, drop, getD, set, length-append, drop-of-length-le}
 use lib.Seq.{sets, length-sets, drop-cons, getD-take, length-take-le}
 use Rattle.bytes.specs.Read.{pick}
 use Rattle.coverage.specs.Ranges.{limit}
-use Rattle.coverage.specs.Kept.{firsts}
+use Rattle.coverage.specs.Kept.{paired, firsts}
 use Rattle.bytes.specs.Written.{littleBytes}
 use Rattle.sheets.specs.Sheet.{addressBytes, sheetBytes}
 use Rattle.coverage.proofs.KeptLaws.{take-paired, length-paired, begins-paired, ends-paired}
-use Rattle.sheets.proofs.SheetLaws.{length-addresses}
+use Rattle.sheets.proofs.SheetLaws.{length-addresses, sheet-spread}
 use Rattle.bytes.proofs.WrittenLaws.{length-little}
 use Rattle.bytes.proofs.PutLaws.{sets-append, put-room}
 
@@ -79,19 +79,19 @@ module _ (bs es : List ℕ) (n : ℕ) (few : n ≤ limit) (lb : length bs ≡ li
   pub taken-ends : length (take n es) ≡ n
   taken-ends = length-take-le n es (omega arith)
 
-  sheet-spread : sheetBytes (firsts n bs es) ≡ n % 256 ∷ n / 256 % 256 ∷ 8 ∷ 0 ∷ (addressBytes (take n bs) ++ addressBytes (take n es))
-  unfolding sheetBytes littleBytes
-  sheet-spread =
+  head-spread : sheetBytes (firsts n bs es) ≡ n % 256 ∷ n / 256 % 256 ∷ 8 ∷ 0 ∷ (addressBytes (take n bs) ++ addressBytes (take n es))
+  head-spread =
       let k : length (take n bs) ≡ length (take n es) = taken-begins ∙ sym taken-ends in
-      rw (take-paired n bs es, begins-paired (take n bs) (take n es) k, ends-paired (take n bs) (take n es) k)
-      (rw (length-paired (take n bs) (take n es) k, taken-begins))
+      rw (take-paired n bs es)
+      (sheet-spread (paired (take n bs) (take n es))
+      ∙ rw (begins-paired (take n bs) (take n es) k, ends-paired (take n bs) (take n es) k, length-paired (take n bs) (take n es) k, taken-begins))
 
   pub sheet-length : length (sheetBytes (firsts n bs es)) ≡ 4 + 16 * n
   sheet-length =
-      rw (sheet-spread, length-append, length-addresses (take n bs), length-addresses (take n es), taken-begins, taken-ends) (omega arith)
+      rw (head-spread, length-append, length-addresses (take n bs), length-addresses (take n es), taken-begins, taken-ends) (omega arith)
 
   pub sheet-put : (l : List ℕ) {l₁ l₂ : List ℕ}
       → l₁ ≡ sets (set (set (set (set l 0 (n % 256)) 1 (n / 256 % 256)) 2 8) 3 0) 4 (addressBytes (take n bs))
       → l₂ ≡ sets l₁ (4 + 8 * n) (addressBytes (take n es))
       → l₂ ≡ sets l 0 (sheetBytes (firsts n bs es))
-  sheet-put l p q = rw (sheet-spread, sets-append, length-addresses, taken-begins, q, p)
+  sheet-put l p q = rw (head-spread, sets-append, length-addresses, taken-begins, q, p)

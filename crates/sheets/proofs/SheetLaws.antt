@@ -20,8 +20,9 @@ use Rattle.sheets.specs.Sheet.{addressBytes, sheetBytes, sheetKept, addr
 use Rattle.coverage.specs.declared.Coverage.{Coverage}
 use Rattle.coverage.proofs.Small.{All, Small}
 use Rattle.bytes.proofs.Order.{lt-or-le}
+use Rattle.bytes.proofs.Values.{little-two}
 use Rattle.coverage.proofs.KeptLaws.{Lawful, length-paired, begins-paired, ends-paired, paired-back, from-lawful, lawful-from, lawful-small}
-use Rattle.bytes.proofs.WrittenLaws.{length-little, little-back, little-written, little-lt, append-bytes, little-bytes}
+use Rattle.bytes.proofs.WrittenLaws.{length-little, little-pair, little-back, little-written, little-lt, append-bytes, little-bytes}
 
 -- addresses of 64 bits
 abbrev Words : List ℕ → Type 0
@@ -50,18 +51,16 @@ addresses-back (a ∷ l) rest w =
     (ap₂ _∷_ (little-back 8 a (w .0)) (addresses-back l rest (w .1)))
 
 -- a sheet's head and its addresses
-sheet-spread : (rs : List Range) → sheetBytes rs ≡ length rs % 256 ∷ length rs / 256 % 256 ∷ 8 ∷ 0 ∷ (addressBytes (begins rs) ++ addressBytes (ends rs))
-unfolding sheetBytes littleBytes
-sheet-spread rs = refl
+pub sheet-spread : (rs : List Range) → sheetBytes rs ≡ length rs % 256 ∷ length rs / 256 % 256 ∷ 8 ∷ 0 ∷ (addressBytes (begins rs) ++ addressBytes (ends rs))
+unfolding sheetBytes
+sheet-spread rs = rw (little-pair (length rs), little-pair 8)
 
 module _ (rs : List Range) (l : Lawful rs) where
   count-back : countIn (sheetBytes rs) ≡ length rs
-  unfolding little
-  count-back = ap countIn (sheet-spread rs) ∙ (let h = l .few in omega arith)
+  count-back = ap countIn (sheet-spread rs) ∙ little-two (length rs % 256) (length rs / 256 % 256) ∙ (let h = l .few in omega arith)
 
   width-back : widthIn (sheetBytes rs) ≡ 8
-  unfolding little
-  width-back = ap widthIn (sheet-spread rs)
+  width-back = ap widthIn (sheet-spread rs) ∙ little-two 8 0
 
   length-back : length (sheetBytes rs) ≡ 4 + 16 * length rs
   length-back =

@@ -1,12 +1,14 @@
 -- `sheets::bad_sheet` meets its contract: the empty coverage keeps no ranges. Assumes nothing.
-use mathlib.Core.Path.{refl}
-use Rattle.coverage.specs.Kept.{keptAs, padded}
+use mathlib.Core.Path.{sym, ap}
+use Rattle.bytes.specs.Error.{refusal}
+use Rattle.bytes.specs.declared.error.Error.the-variants.{BadSheet}
+use Rattle.coverage.specs.Told.{answer}
+use Rattle.coverage.proofs.KeptLaws.{kept-none}
 use Rattle.sheets.proofs.bad_sheet.Statement.{statement}
 use Rattle.sheets.proofs.bad_sheet.Tie as tie
 
 returns : tie.Need-returns
-unfolding keptAs padded
-returns c = refl
+returns c = ap (answer (refusal BadSheet)) (sym kept-none)
 
 pub bad-sheet-spec : {M : Type 1} → statement M
 bad-sheet-spec = tie.close (tie.spec returns)

@@ -2,6 +2,7 @@
 use Rattle.canonical.proofs.MadeLaws.{made-canonical}
 use Rattle.coverage.specs.Output.{written}
 use Rattle.coverage.specs.Covered.{locationList, source}
+use Rattle.bytes.specs.Common.{isSplit}
 use Rattle.bytes.specs.Read.{Result}
 use native.Mathlib.Omega.{arith}
 use Prim.Native.Nat.{ℕ}
@@ -22,7 +23,7 @@ same-length c = search needs
 
 returns : tie.Need-returns
 returns c = let a = c .before .before .before .before .before .before .before .before .args in
-    let x = source (locationList (a .split)) (a .encoding) (a .endian) (a .section .now) (a .offset .0) (a .base-address) (a .debug-addr .now) (a .debug-addr-base) in
+    let x = source (locationList (isSplit (a .file-type))) (a .encoding) (a .endian) (a .section .now) (a .offset .0) (a .base-address) (a .debug-addr .now) (a .debug-addr-base) in
     c .before .before .canonical-made .ensures
     ∙ ap (λ (r : Result (List ℕ)). written r (a .out .now)) (made-canonical x (record { section = λ i. omega (arith, c .before .before .before .before .before .before .before .shared-slice-known .given i); table = λ i. omega (arith, c .before .before .before .before .before .before .shared-slice-known2 .given i) }) (c .before .before .before .before .location-coverage .ensures))
 

@@ -5,11 +5,14 @@ use Rattle.entries.proofs.HeadLaws.{step-same}
 use Rattle.entries.proofs.loclists.raw_location_entry.Statement.{statement}
 use Rattle.entries.proofs.loclists.raw_location_entry.Tie as tie
 
+is-split-requires : tie.Need-is-split-requires
+is-split-requires c κs = search needs
+
 raw-entry-requires : tie.Need-raw-entry-requires
 raw-entry-requires c κs = search needs
 
 returns : tie.Need-returns
-returns c = sym (step-same _) ∙ c .raw-entry .ensures
+returns c = rw (← c .before .is-split .ensures) (sym (step-same _) ∙ c .raw-entry .ensures)
 
 pub raw-location-entry-spec : {M : Type 1} → statement M
-raw-location-entry-spec = tie.close (tie.spec raw-entry-requires returns)
+raw-location-entry-spec = tie.close (tie.spec is-split-requires raw-entry-requires returns)

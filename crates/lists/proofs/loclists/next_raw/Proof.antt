@@ -5,11 +5,14 @@ use Rattle.lists.proofs.ListedLaws.{raw-same}
 use Rattle.lists.proofs.loclists.next_raw.Statement.{statement}
 use Rattle.lists.proofs.loclists.next_raw.Tie as tie
 
+is-split-requires : tie.Need-is-split-requires
+is-split-requires c κs = search needs
+
 next-raw-requires : tie.Need-next-raw-requires
 next-raw-requires c κs = search needs
 
 returns : tie.Need-returns
-returns c = sym (raw-same _) ∙ c .next-raw .ensures
+returns c = rw (← c .before .is-split .ensures) (sym (raw-same _) ∙ c .next-raw .ensures)
 
 pub next-raw-spec : {M : Type 1} → statement M
-next-raw-spec = tie.close (tie.spec next-raw-requires returns)
+next-raw-spec = tie.close (tie.spec is-split-requires next-raw-requires returns)
