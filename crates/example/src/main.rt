@@ -1,5 +1,6 @@
 // Where a value lived at an address: a split location list of DWARF 4, its address table, and a lookup.
 use bytes::common::DebugAddrBase;
+use bytes::common::DwarfFileType;
 use bytes::common::Encoding;
 use bytes::common::Format;
 use bytes::common::LocationListsOffset;
@@ -35,7 +36,7 @@ fn look_up(debug_loc: &[u8], debug_addr: &[u8], address: u64) {
         0,
         encoding,
         RunTimeEndian::Little,
-        true,
+        DwarfFileType::Dwo,
         address,
     ) {
         LocationFound::Found(location) => {

@@ -33,6 +33,7 @@ pub extern "C" fn yz_location_coverage(
 {
     let encoding = ffi_words::words::encoding_of(address_size, dwarf64, version);
     let endian = ffi_words::words::endian_of(big_endian);
+    let file_type = ffi_words::words::file_of(split);
     let made = coverage::collect::location_coverage(
         section,
         debug_addr,
@@ -41,7 +42,7 @@ pub extern "C" fn yz_location_coverage(
         base_address,
         encoding,
         endian,
-        split,
+        file_type,
     );
     let w = ffi_words::coverages::hand_out(made, begins, ends);
     ffi_words::words::write_four(out, w)
@@ -67,6 +68,7 @@ pub extern "C" fn yz_location_canonical(
 {
     let encoding = ffi_words::words::encoding_of(address_size, dwarf64, version);
     let endian = ffi_words::words::endian_of(big_endian);
+    let file_type = ffi_words::words::file_of(split);
     let r = canonical::of_list::canonical_locations(
         section,
         debug_addr,
@@ -75,7 +77,7 @@ pub extern "C" fn yz_location_canonical(
         base_address,
         encoding,
         endian,
-        split,
+        file_type,
         output,
     );
     let w = ffi_words::coverages::wrote_words(r);

@@ -27,6 +27,7 @@ pub extern "C" fn yz_location_lookup(
 {
     let encoding = ffi_words::words::encoding_of(address_size, dwarf64, version);
     let endian = ffi_words::words::endian_of(big_endian);
+    let file_type = ffi_words::words::file_of(split);
     let r = lookups::lookup_location(
         section,
         debug_addr,
@@ -35,7 +36,7 @@ pub extern "C" fn yz_location_lookup(
         base_address,
         encoding,
         endian,
-        split,
+        file_type,
         address,
     );
     let w = ffi_words::locations::found_words(r);

@@ -25,8 +25,9 @@ pub extern "C" fn yz_location_next_raw(
     let base_address = io[1];
     let encoding = ffi_words::words::encoding_of(address_size, dwarf64, version);
     let endian = ffi_words::words::endian_of(big_endian);
+    let file_type = ffi_words::words::file_of(split);
     let walk = Walk { at, base_address };
-    let r = lists::loclists::next_raw(section, walk, encoding, endian, split);
+    let r = lists::loclists::next_raw(section, walk, encoding, endian, file_type);
     let w = ffi_words::locations::raw_words(r);
     ffi_words::words::write_eight(io, w)
 }

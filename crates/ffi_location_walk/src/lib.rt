@@ -52,6 +52,7 @@ pub extern "C" fn yz_location_next(
     let base_address = io[1];
     let encoding = ffi_words::words::encoding_of(address_size, dwarf64, version);
     let endian = ffi_words::words::endian_of(big_endian);
+    let file_type = ffi_words::words::file_of(split);
     let walk = Walk { at, base_address };
     let r = lists::loclists::next(
         section,
@@ -60,7 +61,7 @@ pub extern "C" fn yz_location_next(
         walk,
         encoding,
         endian,
-        split,
+        file_type,
     );
     let w = ffi_words::locations::location_words(r);
     ffi_words::words::write_eight(io, w)

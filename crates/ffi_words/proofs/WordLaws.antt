@@ -3,13 +3,16 @@ use mathlib.Core.Path.{_≡_, ap}
 use mathlib.Core.Bool.{Bool, true, false}
 use Prim.Native.Nat.{ℕ}
 use borrow.Author.Tests.{ne-eqb}
+use Rattle.bytes.specs.Common.{isSplit}
 use Rattle.bytes.specs.Read.{pick}
+use Rattle.bytes.specs.declared.common.DwarfFileType.{DwarfFileType}
 use Rattle.bytes.specs.declared.common.Encoding.{Encoding}
 use Rattle.bytes.specs.declared.common.Format.{Format}
 use Rattle.entries.specs.declared.Expression.{Expression}
 use Rattle.entries.specs.declared.RawRngListEntry.the-variants as rng
 use Rattle.entries.specs.declared.RawLocListEntry.the-variants as loc
 use Rattle.ffi_words.specs.ListWords.{rangeOf, locationOf}
+use Rattle.ffi_words.specs.Words.{fileOf}
 
 -- the last code of a list's entries
 pub last-range : (k a b : ℕ) → (k ≡ 0 → ⊥) → (k ≡ 1 → ⊥) → (k ≡ 2 → ⊥) → (k ≡ 3 → ⊥) → (k ≡ 4 → ⊥) → (k ≡ 5 → ⊥) → (k ≡ 6 → ⊥)
@@ -29,6 +32,11 @@ made size version f = record { «address_size» = size; format = f; version = ve
 
 pub encoding-made : (size version : ℕ) {f g : Format} → f ≡ g → made size version f ≡ made size version g
 encoding-made size version e = ap (made size version) e
+
+-- a file type, back from whether it is split
+pub file-split : (s : Bool) {f : DwarfFileType} → f ≡ fileOf s → isSplit f ≡ s
+file-split true e = rw e
+file-split false e = rw e
 
 -- a choice whose test is known
 pub pick-true : {A : Type 0} {t : Bool} (x y : A) → t ≡ true → pick t x y ≡ x

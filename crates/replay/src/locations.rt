@@ -5,6 +5,7 @@ use super::show;
 use super::show::Form;
 use super::show::Turn;
 use bytes::common::DebugAddrBase;
+use bytes::common::DwarfFileType;
 use bytes::common::LocationListsOffset;
 use entries::RawLocListEntry;
 use entries::constants;
@@ -26,8 +27,11 @@ fn form(x: RawLocListEntry) -> Form {
     }
 }
 
-fn is_split(call: Call) -> bool {
-    8 <= call.what
+fn file_type_of(call: Call) -> DwarfFileType {
+    if 8 <= call.what {
+        return DwarfFileType::Dwo;
+    }
+    DwarfFileType::Main
 }
 
 fn next_answer(r: LocationAnswer) -> Turn {
@@ -42,8 +46,8 @@ pub(crate) fn next(section: &[u8], table: &[u8], call: Call, walk: Walk) -> Turn
     let encoding = call.encoding;
     let endian = call.endian;
     let base = DebugAddrBase(call.c);
-    let split = is_split(call);
-    next_answer(lists::loclists::next(section, table, base, walk, encoding, endian, split))
+    let file_type = file_type_of(call);
+    next_answer(lists::loclists::next(section, table, base, walk, encoding, endian, file_type))
 }
 
 fn converted(r: LocationConverted) -> Turn {
@@ -79,16 +83,16 @@ fn raw_answer(r: RawLocationAnswer) -> Turn {
 pub(crate) fn next_raw(section: &[u8], call: Call, walk: Walk) -> Turn {
     let encoding = call.encoding;
     let endian = call.endian;
-    let split = is_split(call);
-    raw_answer(lists::loclists::next_raw(section, walk, encoding, endian, split))
+    let file_type = file_type_of(call);
+    raw_answer(lists::loclists::next_raw(section, walk, encoding, endian, file_type))
 }
 
 // A raw entry, and what it comes to.
 pub(crate) fn next_converted(section: &[u8], table: &[u8], call: Call, walk: Walk) -> Turn {
     let encoding = call.encoding;
     let endian = call.endian;
-    let split = is_split(call);
-    let r = lists::loclists::next_raw(section, walk, encoding, endian, split);
+    let file_type = file_type_of(call);
+    let r = lists::loclists::next_raw(section, walk, encoding, endian, file_type);
     let turn = raw_answer(r);
     let RawLocationAnswer::Entry(raw, after) = r else {
         return turn;
@@ -112,7 +116,7 @@ pub(crate) fn look_up(section: &[u8], table: &[u8], call: Call) {
     let endian = call.endian;
     let base = DebugAddrBase(call.c);
     let at = LocationListsOffset(call.a);
-    let split = is_split(call);
+    let file_type = file_type_of(call);
     found(lookups::lookup_location(
         section,
         table,
@@ -121,7 +125,7 @@ pub(crate) fn look_up(section: &[u8], table: &[u8], call: Call) {
         call.b,
         encoding,
         endian,
-        split,
+        file_type,
         call.d,
     ));
 }

@@ -7,6 +7,7 @@ use bytes::common::DebugLocListsBase;
 use bytes::common::DebugLocListsIndex;
 use bytes::common::DebugRngListsBase;
 use bytes::common::DebugRngListsIndex;
+use bytes::common::DwarfFileType;
 use bytes::endianity::RunTimeEndian;
 use tables::addr::AddrEntryIter;
 use tables::addr::AddrHeader;
@@ -192,7 +193,13 @@ pub(crate) fn entries() {
     let r1 = entries::rnglists::raw_range_entry(&start_end, 9, p, RunTimeEndian::Little);
     show::range(b"range:", r1);
     let default = [0x05u8, 0x01, 0x50, 0x00];
-    let r2 = entries::loclists::raw_location_entry(&default, 0, p, RunTimeEndian::Little, false);
+    let r2 = entries::loclists::raw_location_entry(
+        &default,
+        0,
+        p,
+        RunTimeEndian::Little,
+        DwarfFileType::Main,
+    );
     show::location(b"location:", r2);
     expression_byte(&default);
 }
@@ -200,7 +207,13 @@ pub(crate) fn entries() {
 pub(crate) fn split() {
     let split = [0x03u8, 0x00, 0x08, 0, 0, 0, 0x01, 0x00, 0x50, 0x00];
     let p4 = encoding(4, 4);
-    let r3 = entries::loclists::raw_location_entry(&split, 0, p4, RunTimeEndian::Little, true);
+    let r3 = entries::loclists::raw_location_entry(
+        &split,
+        0,
+        p4,
+        RunTimeEndian::Little,
+        DwarfFileType::Dwo,
+    );
     show::location(b"split location:", r3);
 }
 

@@ -8,6 +8,7 @@ use bytes::common::DebugLocListsBase;
 use bytes::common::DebugLocListsIndex;
 use bytes::common::DebugRngListsBase;
 use bytes::common::DebugRngListsIndex;
+use bytes::common::DwarfFileType;
 use bytes::common::Format;
 use bytes::endianity::RunTimeEndian;
 use tables::addr::AddrEntryIter;
@@ -137,6 +138,6 @@ pub(crate) fn lists() {
     );
     show::location(
         b"no bytes, location:",
-        entries::loclists::raw_location_entry(s, FAR, p, RunTimeEndian::Big, true),
+        entries::loclists::raw_location_entry(s, FAR, p, RunTimeEndian::Big, DwarfFileType::Dwo),
     );
 }

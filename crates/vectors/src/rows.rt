@@ -2,6 +2,7 @@
 use super::show;
 use bytes::common::DebugAddrBase;
 use bytes::common::DebugAddrIndex;
+use bytes::common::DwarfFileType;
 use bytes::common::Encoding;
 use bytes::common::Format;
 use bytes::endianity::RunTimeEndian;
@@ -46,7 +47,13 @@ pub(crate) fn kinds() {
     let r3 = entries::rnglists::raw_range_entry(&eight, 0, p, RunTimeEndian::Little);
     show::range(b"row 3:", r3);
     let nine = [0x09u8];
-    let r4 = entries::loclists::raw_location_entry(&nine, 0, p, RunTimeEndian::Little, false);
+    let r4 = entries::loclists::raw_location_entry(
+        &nine,
+        0,
+        p,
+        RunTimeEndian::Little,
+        DwarfFileType::Main,
+    );
     show::location(b"row 4:", r4);
 }
 

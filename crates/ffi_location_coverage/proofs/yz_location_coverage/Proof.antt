@@ -1,7 +1,9 @@
 use mathlib.Core.Path.{ap, _∙_}
-use Rattle.coverage.specs.Covered.{Source, locationList, coverageOf}
+use Rattle.coverage.specs.Covered.{Source, locationList, source, coverageOf}
 use Rattle.coverage.specs.Told.{made}
 use Rattle.ffi_words.proofs.CoverageLaws.{same-source, handed-out}
+use mathlib.Core.Bool.{Bool}
+use Rattle.ffi_words.proofs.WordLaws.{file-split}
 use borrow.Author.Needs.{needs}
 use Rattle.ffi_location_coverage.proofs.yz_location_coverage.Statement.{statement}
 use Rattle.ffi_location_coverage.proofs.yz_location_coverage.Tie as tie
@@ -11,6 +13,9 @@ encoding-of-requires c κs = search needs
 
 endian-of-requires : tie.Need-endian-of-requires
 endian-of-requires c κs = search needs
+
+file-of-requires : tie.Need-file-of-requires
+file-of-requires c κs = search needs
 
 location-coverage-requires : tie.Need-location-coverage-requires
 location-coverage-requires c κs = search needs
@@ -23,10 +28,11 @@ write-four-requires c κs = search needs
 
 returns : tie.Need-returns
 returns c =
-    let a = c .before .before .before .before .before .before .before .before .before .before .args in
+    let a = c .before .before .before .before .before .before .before .before .before .before .before .args in
     handed-out (a .begins .now) (a .ends .now) (c .write-four .ensures) (c .before .before .hand-out .ensures)
     (c .before .before .before .before .before .location-coverage .ensures
-    ∙ ap (λ (x : Source). made (coverageOf x)) (same-source (locationList (a .split)) (a .section .now) (a .offset) (a .base-address) (a .debug-addr .now) (record { 0 = a .debug-addr-base }) (c .before .before .before .before .before .before .before .encoding-of .ensures) (c .before .before .before .before .before .before .endian-of .ensures)))
+    ∙ ap (λ (s : Bool). made (coverageOf (source (locationList s) (c .before .before .before .before .before .before .before .before .encoding-of .result) (c .before .before .before .before .before .before .before .endian-of .result) (a .section .now) (a .offset) (a .base-address) (a .debug-addr .now) (record { 0 = a .debug-addr-base })))) (file-split (a .split) (c .before .before .before .before .before .before .file-of .ensures))
+    ∙ ap (λ (x : Source). made (coverageOf x)) (same-source (locationList (a .split)) (a .section .now) (a .offset) (a .base-address) (a .debug-addr .now) (record { 0 = a .debug-addr-base }) (c .before .before .before .before .before .before .before .before .encoding-of .ensures) (c .before .before .before .before .before .before .before .endian-of .ensures)))
 
 pub yz-location-coverage-spec : {M : Type 1} → statement M
 yz-location-coverage-spec =
@@ -34,6 +40,7 @@ yz-location-coverage-spec =
     (tie.spec
     encoding-of-requires
     endian-of-requires
+    file-of-requires
     location-coverage-requires
     hand-out-requires
     write-four-requires
