@@ -1,4 +1,3 @@
-use Rattle.ffi_words.proofs.CoverageLaws.{handed-out}
 use borrow.Author.Needs.{needs}
 use Rattle.ffi.proofs.coverages.yz_coverage_from_sheet.Statement.{statement}
 use Rattle.ffi.proofs.coverages.yz_coverage_from_sheet.Tie as tie
@@ -9,14 +8,8 @@ from-sheet-requires c κs = search needs
 hand-out-requires : tie.Need-hand-out-requires
 hand-out-requires c κs = search needs
 
-write-four-requires : tie.Need-write-four-requires
-write-four-requires c κs = search needs
-
 returns : tie.Need-returns
-returns c =
-    let a = c .before .before .before .before .before .before .before .args in
-    handed-out (a .begins .now) (a .ends .now) (c .write-four .ensures) (c .before .before .hand-out .ensures) (c .before .before .before .before .before .from-sheet .ensures)
+returns c = rw (c .hand-out .ensures, c .before .before .before .from-sheet .ensures)
 
 pub yz-coverage-from-sheet-spec : {M : Type 1} → statement M
-yz-coverage-from-sheet-spec =
-    tie.close (tie.spec from-sheet-requires hand-out-requires write-four-requires returns)
+yz-coverage-from-sheet-spec = tie.close (tie.spec from-sheet-requires hand-out-requires returns)
