@@ -1,3 +1,4 @@
+use Rattle.ffi_words.proofs.CoverageLaws.{output-left}
 use borrow.Author.Needs.{needs}
 use Rattle.ffi_location_coverage.proofs.yz_location_canonical.Statement.{statement}
 use Rattle.ffi_location_coverage.proofs.yz_location_canonical.Tie as tie
@@ -21,7 +22,9 @@ same-length : tie.Need-same-length
 same-length c = search needs
 
 returns : tie.Need-returns
-returns c = rw (c .count-written .ensures, c .before .before .before .canonical-locations .ensures, c .before .before .before .before .before .is-set .ensures, c .before .before .before .before .before .before .endian-in .ensures, c .before .before .before .before .before .before .before .encoding-of .ensures)
+returns c =
+    output-left _ (c .count-written .ensures)
+    (rw (c .before .before .before .before .before .is-set .ensures, c .before .before .before .before .before .before .endian-in .ensures, c .before .before .before .before .before .before .before .encoding-of .ensures) at (c .before .before .before .canonical-locations .ensures))
 
 pub yz-location-canonical-spec : {M : Type 1} → statement M
 yz-location-canonical-spec =

@@ -1,3 +1,4 @@
+use Rattle.ffi_words.proofs.CoverageLaws.{handed-out}
 use borrow.Author.Needs.{needs}
 use Rattle.ffi_location_coverage.proofs.yz_location_coverage.Statement.{statement}
 use Rattle.ffi_location_coverage.proofs.yz_location_coverage.Tie as tie
@@ -18,7 +19,10 @@ hand-out-requires : tie.Need-hand-out-requires
 hand-out-requires c κs = search needs
 
 returns : tie.Need-returns
-returns c = rw (c .hand-out .ensures, c .before .before .before .location-coverage .ensures, c .before .before .before .before .is-set .ensures, c .before .before .before .before .before .endian-in .ensures, c .before .before .before .before .before .before .encoding-of .ensures)
+returns c =
+    let a = c .before .before .before .before .before .before .before .before .before .args in
+    handed-out (a .begins .now) (a .ends .now) (c .hand-out .ensures)
+    (rw (c .before .before .before .before .is-set .ensures, c .before .before .before .before .before .endian-in .ensures, c .before .before .before .before .before .before .encoding-of .ensures) at (c .before .before .before .location-coverage .ensures))
 
 pub yz-location-coverage-spec : {M : Type 1} → statement M
 yz-location-coverage-spec =

@@ -1,3 +1,4 @@
+use Rattle.ffi_words.proofs.CoverageLaws.{output-left}
 use borrow.Author.Needs.{needs}
 use Rattle.ffi_range_coverage.proofs.yz_range_canonical.Statement.{statement}
 use Rattle.ffi_range_coverage.proofs.yz_range_canonical.Tie as tie
@@ -18,7 +19,9 @@ same-length : tie.Need-same-length
 same-length c = search needs
 
 returns : tie.Need-returns
-returns c = rw (c .count-written .ensures, c .before .before .before .canonical-ranges .ensures, c .before .before .before .before .before .endian-in .ensures, c .before .before .before .before .before .before .encoding-of .ensures)
+returns c =
+    output-left _ (c .count-written .ensures)
+    (rw (c .before .before .before .before .before .endian-in .ensures, c .before .before .before .before .before .before .encoding-of .ensures) at (c .before .before .before .canonical-ranges .ensures))
 
 pub yz-range-canonical-spec : {M : Type 1} → statement M
 yz-range-canonical-spec =

@@ -1,3 +1,4 @@
+use Rattle.ffi_words.proofs.CoverageLaws.{output-left}
 use borrow.Author.Needs.{needs}
 use Rattle.ffi.proofs.coverages.yz_canonical.Statement.{statement}
 use Rattle.ffi.proofs.coverages.yz_canonical.Tie as tie
@@ -12,7 +13,9 @@ same-length : tie.Need-same-length
 same-length c = search needs
 
 returns : tie.Need-returns
-returns c = rw (c .count-written .ensures, c .before .before .before .canonical .ensures)
+returns c =
+    output-left _ (c .count-written .ensures)
+    (c .before .before .before .canonical .ensures)
 
 pub yz-canonical-spec : {M : Type 1} → statement M
 yz-canonical-spec =
