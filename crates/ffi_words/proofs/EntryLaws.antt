@@ -8,7 +8,7 @@ use Rattle.bytes.specs.Read.{Result}
 use Rattle.bytes.specs.Error.{number, values}
 use Rattle.bytes.specs.Reader.{isSize}
 use Rattle.bytes.specs.declared.error.Error.the-variants.{UnsupportedAddressSize}
-use Rattle.entries.specs.Kinds.{Kind, unknown, Row, row, kindOf}
+use Rattle.entries.specs.Kinds.{unknown, Row, row, kindOf}
 use Rattle.lists.specs.Walk.{Outcome, refuses}
 use Rattle.lists.specs.declared.Walk.{Walk}
 use Rattle.ffi_words.specs.Entries.{onTaken, sized}
