@@ -1,13 +1,15 @@
 -- A canonical list counted and written range by range: what is left of it, with what is done, is the same all along.
 -- Assumes nothing.
-use mathlib.Core.Path.{_≡_, refl, ap, _∙_}
+use mathlib.Core.Path.{_≡_, refl, sym, ap, _∙_}
+use mathlib.Core.Bool.{true}
 use mathlib.Core.List.{List, [], _∷_, _++_, append-assoc}
 use Prim.Native.Nat.{ℕ, suc, _+_, _-_, _*_, _≤_, _<_}
 use native.Mathlib.Numerals.{add-one}
 use native.Mathlib.Omega.{arith}
 use lib.Dec.{leb}
-use lib.ListN.{length, drop, getD, set, length-append, length-set}
+use lib.ListN.{length, drop, getD, set, length-take, length-append, length-set}
 use lib.Seq.{sets, length-sets}
+use borrow.Author.Tests.{le-leb}
 use Rattle.bytes.specs.Read.{pick}
 use Rattle.coverage.specs.Ranges.{Range, From, limit}
 use Rattle.bytes.specs.Written.{littleBytes, unsignedBytes}
@@ -15,7 +17,8 @@ use Rattle.canonical.specs.Canonical.{entryBytes, canonicalBytes}
 use Rattle.coverage.proofs.KeptLaws.{next-range, no-range}
 use Rattle.bytes.proofs.WrittenLaws.{length-little}
 use Rattle.bytes.proofs.PutLaws.{sets-append, put-room}
-use Rattle.coverage.specs.Kept.{firsts}
+use Rattle.coverage.specs.Kept.{paired, firsts}
+use Rattle.coverage.specs.Sorted.{Sized}
 use Rattle.canonical.specs.Arrays.{Arrays}
 use Rattle.bytes.proofs.WrittenLaws.{unsigned-length}
 
@@ -34,21 +37,33 @@ unfolding canonicalBytes
 some-bytes [] = omega arith
 some-bytes (r ∷ rs) = omega (arith, length-append (entryBytes r) (canonicalBytes rs), some-bytes rs)
 
+-- an entry has at most 19 bytes
+most-bytes : (rs : List Range) → length (canonicalBytes rs) ≤ 19 * length rs + 1
+unfolding canonicalBytes
+most-bytes [] = omega arith
+most-bytes (r ∷ rs) = omega (arith, length-first r rs, unsigned-length 9 (r .1 - r .0), most-bytes rs)
+
+firsts-bytes : (n : ℕ) (bs es : List ℕ) → length (canonicalBytes (firsts n bs es)) ≤ 19 * n + 1
+firsts-bytes n bs es = omega (arith, most-bytes (firsts n bs es), length-take n (paired bs es))
+
+pub fits-most : (n : ℕ) (bs es : List ℕ) (len : ℕ) → n * 19 < len → true ≡ leb (length (canonicalBytes (firsts n bs es))) len
+fits-most n bs es len h = sym (le-leb (length (canonicalBytes (firsts n bs es))) len (omega (arith, firsts-bytes n bs es)))
+
 -- the ranges from the i-th on keep apart
 pub record Over (bs es : List ℕ) (n i : ℕ) : Type 0 where
   pub lo : ℕ
   pub apart : From lo (drop i (firsts n bs es))
   pub within : i ≤ n
   pub few : n ≤ limit
-  pub begins : length bs ≡ limit
-  pub ends : length es ≡ limit
+  pub room : n ≤ length bs
+  pub sized : Sized (length bs) bs es
 
 over-start : {bs es : List ℕ} {n : ℕ} → Arrays n bs es → Over bs es n 0
-over-start a = record { lo = 0; apart = a .apart; within = omega arith; few = a .few; begins = a .begins; ends = a .ends }
+over-start a = record { lo = 0; apart = a .apart; within = omega arith; few = a .few; room = a .room; sized = a .sized }
 
 module _ {bs es : List ℕ} {n i : ℕ} (t : Over bs es n i) where
   over-next : i < n → drop i (firsts n bs es) ≡ (getD bs i 0, getD es i 0) ∷ drop (i + 1) (firsts n bs es)
-  over-next w = next-range bs es n (t .few) (t .begins) (t .ends) i w
+  over-next w = next-range bs es n (t .room) (t .sized .0) (t .sized .1) i w
 
   over-parts : i < n → From (t .lo) ((getD bs i 0, getD es i 0) ∷ drop (i + 1) (firsts n bs es))
   over-parts w = rw (over-next w) at (t .apart)
@@ -58,7 +73,7 @@ module _ {bs es : List ℕ} {n i : ℕ} (t : Over bs es n i) where
 
   over-step : i < n → Over bs es n (i + 1)
   over-step w =
-      record { lo = suc (getD es i 0); apart = over-parts w .2; within = omega arith; few = t .few; begins = t .begins; ends = t .ends }
+      record { lo = suc (getD es i 0); apart = over-parts w .2; within = omega arith; few = t .few; room = t .room; sized = t .sized }
 
   over-length : i < n
       → length (canonicalBytes (drop i (firsts n bs es))) ≡ 9 + length (unsignedBytes (getD es i 0 - getD bs i 0)) + length (canonicalBytes (drop (i + 1) (firsts n bs es)))
@@ -67,26 +82,26 @@ module _ {bs es : List ℕ} {n i : ℕ} (t : Over bs es n i) where
 
   over-none : n ≤ i → canonicalBytes (drop i (firsts n bs es)) ≡ 0 ∷ []
   unfolding canonicalBytes
-  over-none h = ap canonicalBytes (no-range bs es n (t .few) (t .begins) (t .ends) i h)
+  over-none h = ap canonicalBytes (no-range bs es n (t .room) (t .sized .0) (t .sized .1) i h)
 
 -- at bytes count the entries before the i-th range
-pub record Sized (bs es : List ℕ) (n i at : ℕ) : Type 0 where
+pub record Counting (bs es : List ℕ) (n i at : ℕ) : Type 0 where
   pub over : Over bs es n i
   pub place : at + length (canonicalBytes (drop i (firsts n bs es))) ≡ length (canonicalBytes (firsts n bs es))
   pub most : at ≤ 19 * i
 
-pub sized-start : {bs es : List ℕ} {n : ℕ} → Arrays n bs es → Sized bs es n 0 0
-sized-start a = record { over = over-start a; place = omega arith; most = omega arith }
+pub counting-start : {bs es : List ℕ} {n : ℕ} → Arrays n bs es → Counting bs es n 0 0
+counting-start a = record { over = over-start a; place = omega arith; most = omega arith }
 
-module _ {bs es : List ℕ} {n i at : ℕ} (t : Sized bs es n i at) where
-  pub sized-step : {k : ℕ} → i < n → k ≡ length (unsignedBytes (getD es i 0 - getD bs i 0)) → Sized bs es n (i + 1) (at + 9 + k)
-  sized-step w e =
+module _ {bs es : List ℕ} {n i at : ℕ} (t : Counting bs es n i at) where
+  pub counting-step : {k : ℕ} → i < n → k ≡ length (unsignedBytes (getD es i 0 - getD bs i 0)) → Counting bs es n (i + 1) (at + 9 + k)
+  counting-step w e =
       let l = over-length (t .over) w in
       let u = unsigned-length 9 (getD es i 0 - getD bs i 0) in
       record { over = over-step (t .over) w; place = omega (arith, t .place); most = omega (arith, t .most) }
 
-  pub sized-end : n ≤ i → at + 1 ≡ length (canonicalBytes (firsts n bs es))
-  sized-end h = rw (over-none (t .over) h) at (t .place)
+  pub counting-end : n ≤ i → at + 1 ≡ length (canonicalBytes (firsts n bs es))
+  counting-end h = rw (over-none (t .over) h) at (t .place)
 
 -- at the place at are still to be written the entries from the i-th range on, and the end mark
 pub record Writing (bs es : List ℕ) (n : ℕ) (l₀ l : List ℕ) (i at : ℕ) : Type 0 where
@@ -107,6 +122,9 @@ module _ {bs es l₀ l : List ℕ} {n i at : ℕ} (t : Writing bs es n l₀ l i 
 
   pub writing-here : at < length l
   writing-here = omega (arith, t .place, t .long, t .room, some-bytes (drop i (firsts n bs es)))
+
+  pub writing-small : at ≤ 19 * limit
+  writing-small = omega (arith, t .place, firsts-bytes n bs es, t .over .few, some-bytes (drop i (firsts n bs es)))
 
   -- the begin of a range, put after its kind
   pub writing-begin : {l₂ : List ℕ} → i < n
@@ -134,5 +152,5 @@ module _ {bs es l₀ l : List ℕ} {n i at : ℕ} (t : Writing bs es n l₀ l i 
           let e : suc at + 8 ≡ at + 9 = omega arith in
           rw (over-next (t .over) w, bytes-first, sets-append, sets-append, length-little, e, r, p, q, add-one at)
 
-  pub writing-end : n ≤ i → set l at 0 ≡ sets l₀ 0 (canonicalBytes (firsts n bs es))
-  writing-end h = rw (over-none (t .over) h) at (t .same)
+  pub writing-end : n ≤ i → (at + 1 ≡ length (canonicalBytes (firsts n bs es))) × (set l at 0 ≡ sets l₀ 0 (canonicalBytes (firsts n bs es)))
+  writing-end h = (rw (over-none (t .over) h) at (t .place), rw (over-none (t .over) h) at (t .same))

@@ -4,6 +4,5 @@ pub mod Demand
 pub mod Unsigned
 pub mod Entries
 pub mod Answers
-pub mod MadeLaws
 pub mod Forming
 pub mod Pieces

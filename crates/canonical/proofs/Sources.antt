@@ -15,14 +15,14 @@ use Rattle.bytes.specs.declared.common.Format.{Format}
 use Rattle.bytes.specs.declared.common.Format.the-variants.{Dwarf32}
 use Rattle.coverage.specs.Ranges.{Range, Covers, limit, runs}
 use Rattle.coverage.specs.Covered.{Source, yieldedOf, coverageOf, CoveredBy, Bytes, readBack}
-use Rattle.coverage.specs.Kept.{rangesOf, keptAs, lawfulSheet}
+use Rattle.coverage.specs.Kept.{rangesOf, lawfulSheet}
 use Rattle.canonical.specs.Canonical.{canonicalBytes, canonicalOf, canonicalKept}
 use Rattle.coverage.specs.declared.Coverage.{Coverage}
 use Rattle.coverage.proofs.Small.{Small}
 use Rattle.canonical.proofs.CanonicalLaws.{canonical-bytes, canonical-yields}
 use Rattle.coverage.proofs.RangeLaws.{Same, unique, runs-length, runs-apart, runs-cover, runs-same, apart-proper}
 use Rattle.coverage.proofs.CoveredLaws.{yielded-small, yielded-few, small-proper, runs-small}
-use Rattle.coverage.proofs.KeptLaws.{Lawful, ranges-kept, kept-lawful}
+use Rattle.coverage.proofs.KeptLaws.{Lawful}
 
 -- a coverage's ranges are the runs of those that were yielded
 pub mapped-gives : {A B : Type 0} (f : A → B) (r : Result A) {b : B} → mapped f r ≡ gives b → (a : A) × (r ≡ gives a) × (f a ≡ b)
@@ -98,9 +98,3 @@ module _ (c : Coverage) where
       chosen : (t : Bool) (l : List ℕ) (n : ℕ) (vs : List ℕ) → pick t (gives l) (refused n vs) ≡ gives bs → (t ≡ true) × (l ≡ bs)
       chosen true l n vs e = (refl, cc)
       chosen false l n vs e = let z : _≡_ {A = ℕ} 0 1 = cc in absurd (omega arith)
-
--- a list's coverage, kept and handed in again, has the list's canonical bytes
-pub kept-canonical : (x : Source) {rs : List Range} → Bytes x → coverageOf x ≡ gives rs → canonicalKept (keptAs rs) ≡ canonicalOf x
-unfolding canonicalOf
-kept-canonical x {rs} b e =
-    kept-bytes (keptAs rs) (kept-lawful rs (source-lawful x e b)) ∙ ap (λ (l : List Range). gives (canonicalBytes l)) (ranges-kept rs) ∙ sym (ap (mapped canonicalBytes) e)

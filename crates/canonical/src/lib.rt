@@ -5,11 +5,11 @@ pub mod of_list;
 use bytes::error::Error;
 use bytes::put::put_u64;
 use coverage::Coverage;
-use coverage::LIMIT;
 use coverage::Wrote;
 use coverage::lawful::is_lawful;
 ghost use mathlib.Core.Path.{_≡_};
 ghost use Prim.Native.Nat.{_+_, _≤_};
+ghost use lib.Dec.{leb};
 ghost use lib.ListN.{length};
 ghost use lib.Seq.{sets};
 ghost use Rattle.bytes.specs.Written.{unsignedBytes};
@@ -50,7 +50,7 @@ fn put_unsigned(out: &mut [u8], at: usize, x: u64) -> usize
 }
 
 // How many bytes the canonical list of the first n ranges has.
-fn size(n: usize, begins: &[u64; LIMIT], ends: &[u64; LIMIT]) -> usize
+fn size(n: usize, begins: &[u64], ends: &[u64]) -> usize
     requires { ⌜ Arrays n (now begins) (now ends) ⌝ }
     ensures { λ r. ⌜ r ≡ length (canonicalBytes (firsts n (now (begins .entry)) (now (ends .entry)))) ⌝ }
 {
@@ -63,10 +63,23 @@ fn size(n: usize, begins: &[u64; LIMIT], ends: &[u64; LIMIT]) -> usize
     at + 1
 }
 
-// The canonical list of the first n ranges, from the output's begin on.
-fn write(n: usize, begins: &[u64; LIMIT], ends: &[u64; LIMIT], out: &mut [u8])
+// Whether so many bytes have room for the canonical list of the first n ranges. Where they have it for entries as long as an entry
+// can be, these are not counted.
+fn fits(n: usize, begins: &[u64], ends: &[u64], len: usize) -> bool
+    requires { ⌜ Arrays n (now begins) (now ends) ⌝ }
+    ensures { λ r. ⌜ r ≡ leb (length (canonicalBytes (firsts n (now (begins .entry)) (now (ends .entry))))) len ⌝ }
+{
+    if n * 19 < len {
+        return true;
+    }
+    size(n, begins, ends) <= len
+}
+
+// The canonical list of the first n ranges, from the output's begin on, and how many bytes it has.
+fn write(n: usize, begins: &[u64], ends: &[u64], out: &mut [u8]) -> usize
     requires { ⌜ Arrays n (now begins) (now ends) ⌝ }
     requires { ⌜ length (canonicalBytes (firsts n (now begins) (now ends))) ≤ length (now out) ⌝ }
+    ensures { λ r. ⌜ r ≡ length (canonicalBytes (firsts n (now (begins .entry)) (now (ends .entry)))) ⌝ }
     ensures { λ _. ⌜ now (out .exit) ≡ sets (now (out .entry)) 0 (canonicalBytes (firsts n (now (begins .entry)) (now (ends .entry)))) ⌝ }
 {
     let mut i: usize = 0;
@@ -80,20 +93,19 @@ fn write(n: usize, begins: &[u64; LIMIT], ends: &[u64; LIMIT], out: &mut [u8])
         i += 1;
     }
     out[at] = 0;
+    at + 1
 }
 
 // The canonical list of the first n ranges, and how many bytes it has; where the output is shorter, 11, and nothing is
 // written.
-fn put_list(n: usize, begins: &[u64; LIMIT], ends: &[u64; LIMIT], out: &mut [u8]) -> Wrote
+pub(crate) fn put_list(n: usize, begins: &[u64], ends: &[u64], out: &mut [u8]) -> Wrote
     requires { ⌜ Arrays n (now begins) (now ends) ⌝ }
     ensures { λ r. ⌜ Put r (canonicalBytes (firsts n (now (begins .entry)) (now (ends .entry)))) (now (out .entry)) (now (out .exit)) ⌝ }
 {
-    let len = size(n, begins, ends);
-    if out.len() < len {
-        return Wrote::Refused(Error::NoSpace);
+    if fits(n, begins, ends, out.len()) {
+        return Wrote::Bytes(write(n, begins, ends, out));
     }
-    write(n, begins, ends, out);
-    Wrote::Bytes(len)
+    Wrote::Refused(Error::NoSpace)
 }
 
 // The canonical list of a coverage, and how many bytes it has: 12 where the coverage makes no lawful sheet, then 11.

@@ -1,32 +1,122 @@
-// The canonical list of a range list or a location list in one call.
+// The canonical list of a range list or a location list in one call. No coverage is made by value.
 use bytes::common::DebugAddrBase;
 use bytes::common::DwarfFileType;
 use bytes::common::Encoding;
 use bytes::common::LocationListsOffset;
 use bytes::common::RangeListsOffset;
 use bytes::endianity::RunTimeEndian;
-use coverage::Made;
-use coverage::Verdict;
+use bytes::error::Error;
+use coverage::LIMIT;
+use coverage::SHORT;
 use coverage::Wrote;
+use coverage::collect::Collected;
+use coverage::collect::cover_long;
+use coverage::collect::cover_short;
 ghost use mathlib.Core.Path.{_≡_};
 ghost use Rattle.bytes.specs.Common.{isSplit};
 ghost use Rattle.canonical.specs.Canonical.{canonicalOf};
-ghost use Rattle.coverage.specs.Covered.{rangeList, locationList, source};
+ghost use Rattle.coverage.specs.Covered.{rangeList, locationList, holding, source};
 ghost use Rattle.coverage.specs.Output.{output, written};
-ghost use Rattle.coverage.specs.Told.{toldWrote, toldMade};
-ghost use Rattle.canonical.specs.Made.{canonicalMade};
+ghost use Rattle.coverage.specs.Told.{toldWrote};
 
-// The canonical list of a coverage that was made, or its refusal.
-fn canonical_made(made: Made, out: &mut [u8]) -> Wrote
-    ensures { λ r. ⌜ output (toldWrote r) (now (out .exit)) ≡ written (canonicalMade (toldMade made)) (now (out .entry)) ⌝ }
+// The canonical list of a list that yields more ranges than short arrays have room for. It calls itself once, so that it stays a
+// call: its arrays would else be made room for in every call.
+fn canonical_long(
+    again: bool,
+    section: &[u8],
+    debug_addr: &[u8],
+    debug_addr_base: DebugAddrBase,
+    offset: u64,
+    base_address: u64,
+    encoding: Encoding,
+    endian: RunTimeEndian,
+    locations: bool,
+    split: bool,
+    out: &mut [u8],
+) -> Wrote
+    ensures { λ r. ⌜ output (toldWrote r) (now (out .exit)) ≡ written (canonicalOf (source (holding locations split) encoding endian (now (section .entry)) offset «base_address» (now («debug_addr» .entry)) «debug_addr_base»)) (now (out .entry)) ⌝ }
 {
-    let verdict = made.verdict;
-    match verdict {
-        Verdict::Refused(e) => Wrote::Refused(e),
-        Verdict::Made => {
-            let coverage = made.coverage;
-            super::canonical(coverage, out)
-        }
+    if again {
+        return canonical_long(
+            false,
+            section,
+            debug_addr,
+            debug_addr_base,
+            offset,
+            base_address,
+            encoding,
+            endian,
+            locations,
+            split,
+            out,
+        );
+    }
+    let mut begins = [0u64; LIMIT];
+    let mut ends = [0u64; LIMIT];
+    match cover_long(
+        section,
+        debug_addr,
+        debug_addr_base,
+        offset,
+        base_address,
+        encoding,
+        endian,
+        locations,
+        split,
+        &mut begins,
+        &mut ends,
+    ) {
+        Collected::Got(n) => super::put_list(n, &begins, &ends, out),
+        Collected::Full => Wrote::Refused(Error::TooManyRanges),
+        Collected::Refused(e) => Wrote::Refused(e),
+    }
+}
+
+// The canonical list of the list at an offset, its coverage made in short arrays first.
+fn canonical_list(
+    section: &[u8],
+    debug_addr: &[u8],
+    debug_addr_base: DebugAddrBase,
+    offset: u64,
+    base_address: u64,
+    encoding: Encoding,
+    endian: RunTimeEndian,
+    locations: bool,
+    split: bool,
+    out: &mut [u8],
+) -> Wrote
+    ensures { λ r. ⌜ output (toldWrote r) (now (out .exit)) ≡ written (canonicalOf (source (holding locations split) encoding endian (now (section .entry)) offset «base_address» (now («debug_addr» .entry)) «debug_addr_base»)) (now (out .entry)) ⌝ }
+{
+    let mut begins = [0u64; SHORT];
+    let mut ends = [0u64; SHORT];
+    match cover_short(
+        section,
+        debug_addr,
+        debug_addr_base,
+        offset,
+        base_address,
+        encoding,
+        endian,
+        locations,
+        split,
+        &mut begins,
+        &mut ends,
+    ) {
+        Collected::Got(n) => super::put_list(n, &begins, &ends, out),
+        Collected::Full => canonical_long(
+            true,
+            section,
+            debug_addr,
+            debug_addr_base,
+            offset,
+            base_address,
+            encoding,
+            endian,
+            locations,
+            split,
+            out,
+        ),
+        Collected::Refused(e) => Wrote::Refused(e),
     }
 }
 
@@ -43,16 +133,18 @@ pub fn canonical_ranges(
 ) -> Wrote
     ensures { λ r. ⌜ output (toldWrote r) (now (out .exit)) ≡ written (canonicalOf (source rangeList encoding endian (now (section .entry)) (offset .0) «base_address» (now («debug_addr» .entry)) «debug_addr_base»)) (now (out .entry)) ⌝ }
 {
-    let made = coverage::collect::range_coverage(
+    canonical_list(
         section,
         debug_addr,
         debug_addr_base,
-        offset,
+        offset.0,
         base_address,
         encoding,
         endian,
-    );
-    canonical_made(made, out)
+        false,
+        false,
+        out,
+    )
 }
 
 // The canonical list of the location list at an offset, plain or split: the refusals of its coverage, then 11.
@@ -69,15 +161,17 @@ pub fn canonical_locations(
 ) -> Wrote
     ensures { λ r. ⌜ output (toldWrote r) (now (out .exit)) ≡ written (canonicalOf (source (locationList (isSplit «file_type»)) encoding endian (now (section .entry)) (offset .0) «base_address» (now («debug_addr» .entry)) «debug_addr_base»)) (now (out .entry)) ⌝ }
 {
-    let made = coverage::collect::location_coverage(
+    let split = file_type.is_split();
+    canonical_list(
         section,
         debug_addr,
         debug_addr_base,
-        offset,
+        offset.0,
         base_address,
         encoding,
         endian,
-        file_type,
-    );
-    canonical_made(made, out)
+        true,
+        split,
+        out,
+    )
 }

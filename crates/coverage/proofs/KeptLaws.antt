@@ -40,7 +40,7 @@ getD-paired (b ∷ bs) [] i h k = absurd (omega arith)
 getD-paired (b ∷ bs) (e ∷ es) zero h k = refl
 getD-paired (b ∷ bs) (e ∷ es) (suc i) h k = getD-paired bs es i (omega arith) (omega arith)
 
-module _ (bs es : List ℕ) (n : ℕ) (fits : n ≤ limit) (lb : length bs ≡ limit) (le : length es ≡ limit) where
+module _ (bs es : List ℕ) (n : ℕ) {room : ℕ} (fits : n ≤ room) (lb : length bs ≡ room) (le : length es ≡ room) where
   pub length-ranges : length (firsts n bs es) ≡ n
   length-ranges = let z = length-paired bs es (lb ∙ sym le) in rw length-take (omega arith)
 

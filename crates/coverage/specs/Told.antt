@@ -1,14 +1,18 @@
 -- The answers of the calls over coverages, told by document 01's numbers.
 use mathlib.Core.List.{List, []}
 use Prim.Native.Nat.{ℕ}
+use lib.ListN.{length}
 use Rattle.bytes.specs.Read.{Result, gives, refused}
 use Rattle.bytes.specs.Error.{refusal}
+use Rattle.bytes.specs.declared.error.Error.the-variants.{TooManyRanges}
 use Rattle.coverage.specs.Ranges.{Range}
 use Rattle.coverage.specs.Kept.{keptAs}
 use Rattle.coverage.specs.declared.Coverage.{Coverage}
 use Rattle.coverage.specs.declared.Made.{Made}
 use Rattle.coverage.specs.declared.Verdict.{Verdict}
 use Rattle.coverage.specs.declared.Verdict.the-variants as verdict
+use Rattle.coverage.specs.declared.collect.Collected.{Collected}
+use Rattle.coverage.specs.declared.collect.Collected.the-variants as collected
 use Rattle.coverage.specs.declared.Wrote.{Wrote}
 use Rattle.coverage.specs.declared.Wrote.the-variants as wrote
 
@@ -36,3 +40,28 @@ toldMade m = answer (toldVerdict (m .verdict)) (m .coverage)
 abbrev pub made : Result (List Range) → Answer
 made (gives rs) = answer (gives tt) (keptAs rs)
 made (refused n vs) = answer (refused n vs) (keptAs [])
+
+-- how many ranges a coverage has, or a refusal, and what is left in the two arrays that a caller lends for begins and ends
+pub record Placed : Type 0 where
+  pub answer : Result ℕ
+  pub begins : List ℕ
+  pub ends : List ℕ
+
+abbrev pub placed : Result ℕ → List ℕ → List ℕ → Placed
+placed r bs es = record { answer = r; begins = bs; ends = es }
+
+-- how many ranges were gathered, or the refusal
+abbrev pub toldCount : Collected → Result ℕ
+toldCount (collected.Got n) = gives n
+toldCount collected.Full = refusal TooManyRanges
+toldCount (collected.Refused e) = refusal e
+
+-- the coverage that keeps the ranges given, put into lent arrays, 0 past the count; where they are refused, these are as they were
+abbrev pub placing : Result (List Range) → List ℕ → List ℕ → Placed
+placing (gives rs) bs es = placed (gives (length rs)) (keptAs rs .begins) (keptAs rs .ends)
+placing (refused n vs) bs es = placed (refused n vs) bs es
+
+-- a coverage by value of what was put into two arrays
+abbrev pub byCount : Result ℕ → List ℕ → List ℕ → Answer
+byCount (gives n) bs es = answer (gives tt) (record { n = n; begins = bs; ends = es })
+byCount (refused n vs) bs es = answer (refused n vs) (record { n = 0; begins = bs; ends = es })

@@ -1,12 +1,15 @@
 // Coverage of a list: the addresses that it covers, as their longest unbroken runs.
 pub mod collect;
 pub mod lawful;
+pub mod place;
 pub mod sort;
 
 use bytes::error::Error;
 
 // How many ranges a list may yield, and a coverage keep.
 pub const LIMIT: usize = 1024;
+// How many ranges are gathered first in arrays of their own: nearly all lists yield no more.
+pub const SHORT: usize = 32;
 
 // The addresses that a list covers: a count, and in two arrays begins and ends, ascending, never overlapping or touching.
 // Places past the count are 0 and not read.

@@ -20,6 +20,12 @@ returns c =
     let a = c .before .before .before .args in
     canonical-refused (a .coverage) (a .out .now) (sym (c .before .is-lawful .ensures) ∙ not-true _ (c .if1 .taken))
 
+slice-aggregate-put-list : tie.Need-slice-aggregate-put-list
+slice-aggregate-put-list c = search needs
+
+slice-aggregate-put-list-2 : tie.Need-slice-aggregate-put-list-2
+slice-aggregate-put-list-2 c = search needs
+
 put-list-requires : tie.Need-put-list-requires
 put-list-requires c κs =
     let s = c .before .before .before .before .before in
@@ -36,4 +42,4 @@ returns-2 c =
 
 pub canonical-spec : {M : Type 1} → statement M
 canonical-spec =
-    tie.close (tie.spec is-lawful-requires returns put-list-requires same-length returns-2)
+    tie.close (tie.spec is-lawful-requires returns slice-aggregate-put-list slice-aggregate-put-list-2 put-list-requires same-length returns-2)

@@ -1,18 +1,18 @@
 -- `canonical::size` meets its contract: the bytes counted, with those of the ranges left, are all of them. Assumes nothing.
 use Prim.Native.Nat.{_-_}
 use native.Mathlib.Omega.{arith}
-use Rattle.canonical.proofs.Entries.{Sized, sized-start, sized-step, sized-end, over-proper}
+use Rattle.canonical.proofs.Entries.{Counting, counting-start, counting-step, counting-end, over-proper}
 use Rattle.canonical.proofs.size.Statement.{statement}
 use Rattle.canonical.proofs.size.Tie as tie
 
 abbrev Inv-loop : tie.InvT-loop
-Inv-loop n begins ends i₀ at₀ i at = Sized begins ends n i at
+Inv-loop n begins ends i₀ at₀ i at = Counting begins ends n i at
 
 abbrev μ-loop : tie.MeasureT-loop
 μ-loop n begins ends i₀ at₀ i at = n - i
 
 loop-holds : tie.Need-loop-holds Inv-loop μ-loop
-loop-holds c = sized-start (c .pre)
+loop-holds c = counting-start (c .before .before .pre)
 
 add-at : tie.Need-add-at Inv-loop μ-loop
 add-at c = omega arith
@@ -20,14 +20,14 @@ add-at c = omega arith
 mul-unsigned-size : tie.Need-mul-unsigned-size Inv-loop μ-loop
 mul-unsigned-size c = omega arith
 
-element-copy-out-unsigned-size : tie.Need-element-copy-out-unsigned-size Inv-loop μ-loop
-element-copy-out-unsigned-size c = omega arith
+shared-slice-read-unsigned-size : tie.Need-shared-slice-read-unsigned-size Inv-loop μ-loop
+shared-slice-read-unsigned-size c = omega arith
 
 mul-unsigned-size-2 : tie.Need-mul-unsigned-size-2 Inv-loop μ-loop
 mul-unsigned-size-2 c = omega arith
 
-element-copy-out-unsigned-size-2 : tie.Need-element-copy-out-unsigned-size-2 Inv-loop μ-loop
-element-copy-out-unsigned-size-2 c = omega arith
+shared-slice-read-unsigned-size-2 : tie.Need-shared-slice-read-unsigned-size-2 Inv-loop μ-loop
+shared-slice-read-unsigned-size-2 c = omega arith
 
 sub-unsigned-size : tie.Need-sub-unsigned-size Inv-loop μ-loop
 sub-unsigned-size c = omega (arith, over-proper (c .before .before .before .loop .inv .over) (c .before .before .loop-test .taken))
@@ -38,7 +38,7 @@ unsigned-size-requires c κs = tt
 add-at-2 : tie.Need-add-at-2 Inv-loop μ-loop
 add-at-2 c =
     let w = c .before .before .before in
-    omega (arith, sized-step (w .before .loop .inv) (w .loop-test .taken) (c .unsigned-size .ensures) .most)
+    omega (arith, counting-step (w .before .loop .inv) (w .loop-test .taken) (c .unsigned-size .ensures) .most)
 
 add-i : tie.Need-add-i Inv-loop μ-loop
 add-i c = omega arith
@@ -49,13 +49,13 @@ loop-less c = omega arith
 loop-again : tie.Need-loop-again Inv-loop μ-loop
 loop-again c =
     let w = c .before .before .before in
-    sized-step (w .before .loop .inv) (w .loop-test .taken) (c .unsigned-size .ensures)
+    counting-step (w .before .loop .inv) (w .loop-test .taken) (c .unsigned-size .ensures)
 
 add-result : tie.Need-add-result Inv-loop μ-loop
 add-result c = omega arith
 
 returns : tie.Need-returns Inv-loop μ-loop
-returns c = sized-end (c .before .loop .inv) (c .loop-test .left)
+returns c = counting-end (c .before .loop .inv) (c .loop-test .left)
 
 pub size-spec : {M : Type 1} → statement M
 size-spec =
@@ -66,9 +66,9 @@ size-spec =
     loop-holds
     add-at
     mul-unsigned-size
-    element-copy-out-unsigned-size
+    shared-slice-read-unsigned-size
     mul-unsigned-size-2
-    element-copy-out-unsigned-size-2
+    shared-slice-read-unsigned-size-2
     sub-unsigned-size
     unsigned-size-requires
     add-at-2

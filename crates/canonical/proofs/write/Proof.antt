@@ -3,7 +3,7 @@
 use Prim.Native.Nat.{_-_}
 use native.Mathlib.Omega.{arith}
 use lib.ListN.{length-set}
-use Rattle.canonical.proofs.Entries.{Writing, writing-start, writing-room, writing-here, writing-begin, writing-step, writing-end, over-proper}
+use Rattle.canonical.proofs.Entries.{Writing, writing-start, writing-room, writing-here, writing-begin, writing-step, writing-end, over-proper, writing-small}
 use Rattle.canonical.proofs.write.Statement.{statement}
 use Rattle.canonical.proofs.write.Tie as tie
 
@@ -14,19 +14,19 @@ abbrev μ-loop : tie.MeasureT-loop
 μ-loop n begins ends out₀ i₀ at₀ out i at = n - i
 
 loop-holds : tie.Need-loop-holds Inv-loop μ-loop
-loop-holds c = writing-start (c .before .pre .0) (c .before .pre .1)
+loop-holds c = writing-start (c .before .before .before .pre .0) (c .before .before .before .pre .1)
 
 mul-begin : tie.Need-mul-begin Inv-loop μ-loop
 mul-begin c = omega arith
 
-element-copy-out-begin : tie.Need-element-copy-out-begin Inv-loop μ-loop
-element-copy-out-begin c = omega arith
+shared-slice-read-begin : tie.Need-shared-slice-read-begin Inv-loop μ-loop
+shared-slice-read-begin c = omega arith
 
 mul-end : tie.Need-mul-end Inv-loop μ-loop
 mul-end c = omega arith
 
-element-copy-out-end : tie.Need-element-copy-out-end Inv-loop μ-loop
-element-copy-out-end c = omega arith
+shared-slice-read-end : tie.Need-shared-slice-read-end Inv-loop μ-loop
+shared-slice-read-end c = omega arith
 
 slice-write-out : tie.Need-slice-write-out Inv-loop μ-loop
 slice-write-out c = writing-here (c .before .before .before .loop .inv)
@@ -66,6 +66,9 @@ loop-again c =
 slice-write-out-2 : tie.Need-slice-write-out-2 Inv-loop μ-loop
 slice-write-out-2 c = writing-here (c .before .loop .inv)
 
+add-result : tie.Need-add-result Inv-loop μ-loop
+add-result c = omega (arith, writing-small (c .before .loop .inv))
+
 same-length : tie.Need-same-length Inv-loop μ-loop
 same-length c = simp length-set (c .before .loop .inv .long)
 
@@ -80,9 +83,9 @@ write-spec =
     μ-loop
     loop-holds
     mul-begin
-    element-copy-out-begin
+    shared-slice-read-begin
     mul-end
-    element-copy-out-end
+    shared-slice-read-end
     slice-write-out
     add-put-u64
     put-u64-requires
@@ -93,5 +96,6 @@ write-spec =
     loop-less
     loop-again
     slice-write-out-2
+    add-result
     same-length
     returns)

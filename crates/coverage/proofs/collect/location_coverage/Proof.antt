@@ -1,16 +1,22 @@
--- The coverage of the list, split as the file type says. Assumes nothing.
+-- The coverage was put into two arrays of zeros. Assumes nothing.
+use mathlib.Core.Path.{_∙_}
+use Rattle.coverage.proofs.GatherLaws.{placed-coverage}
 use borrow.Author.Needs.{needs}
 use Rattle.coverage.proofs.collect.location_coverage.Statement.{statement}
 use Rattle.coverage.proofs.collect.location_coverage.Tie as tie
+use Rattle.coverage.proofs.collect.location_coverage.Reads as reads
+use Rattle.coverage.proofs.collect.location_coverage.Lts as lts
+use Rattle.coverage.proofs.collect.by_count.Reads as by-count-reads
+use Rattle.coverage.proofs.place.place_locations.Reads as place-locations-reads
 
-is-split-requires : tie.Need-is-split-requires
-is-split-requires c κs = search needs
+place-locations-requires : tie.Need-place-locations-requires
+place-locations-requires c κs = search needs
 
-list-coverage-requires : tie.Need-list-coverage-requires
-list-coverage-requires c κs = search needs
+by-count-requires : tie.Need-by-count-requires
+by-count-requires c κs = search needs
 
 returns : tie.Need-returns
-returns c = rw (← c .before .is-split .ensures) (c .list-coverage .ensures)
+returns c = c .by-count .ensures ∙ placed-coverage _ (c .before .place-locations .ensures)
 
 pub location-coverage-spec : {M : Type 1} → statement M
-location-coverage-spec = tie.close (tie.spec is-split-requires list-coverage-requires returns)
+location-coverage-spec = tie.close (tie.spec place-locations-requires by-count-requires returns)

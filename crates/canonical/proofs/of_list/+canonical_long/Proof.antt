@@ -1,0 +1,206 @@
+-- The ranges gathered in arrays as long as a coverage's are the list's coverage; the measure is how often the call calls itself.
+-- Assumes nothing.
+use Rattle.canonical.proofs.Answers.{list-arrays, list-put, list-refused}
+use Rattle.coverage.proofs.GatherLaws.{turns, settled-refused, full-refused}
+use Rattle.bytes.specs.declared.error.Error.the-variants.{TooManyRanges}
+use Rattle.coverage.specs.Covered.{holding, source}
+use borrow.Author.Needs.{needs}
+use mathlib.Core.Path.{sym, ap}
+use native.Mathlib.Omega.{arith}
+use Prim.Native.Nat.{ℕ, _<_}
+use borrow.Fn.Kinds.{In}
+use borrow.Fn.PlainCycle.{Measures, is, falls, and}
+use Rattle.canonical.proofs.of_list.canonical_long.Reads as canonical-long
+use Rattle.canonical.proofs.of_list.canonical_long.Kinds as canonical-long-kinds
+use Rattle.canonical.proofs.of_list.+canonical_long.Lts-canonical_long as canonical-long-lts
+use Rattle.canonical.proofs.put_list.Reads as put-list-reads
+use Rattle.coverage.proofs.collect.cover_long.Reads as cover-long-reads
+use Rattle.canonical.proofs.of_list.+canonical_long.{statement}
+use Rattle.canonical.proofs.of_list.+canonical_long.Tie.{close}
+
+abbrev μ-canonical-long : Measures 3 canonical-long-kinds.ps ℕ
+μ-canonical-long κs a = turns (a .0)
+
+abbrev canonical-long-at : ℕ → In 3 canonical-long-kinds.ps
+canonical-long-at t =
+    and
+    3
+    canonical-long-kinds.ps
+    (is 3 canonical-long-kinds.ps μ-canonical-long t)
+    canonical-long.Pre
+
+abbrev canonical-long-below : ℕ → In 3 canonical-long-kinds.ps
+canonical-long-below t =
+    and
+    3
+    canonical-long-kinds.ps
+    (falls 3 canonical-long-kinds.ps _<_ μ-canonical-long t)
+    canonical-long.Pre
+
+canonical-long-canonical-long-requires : (t : ℕ) → canonical-long-lts.Need-canonical-long-requires (
+  canonical-long-below t,
+  canonical-long.Post,
+  cover-long-reads.Asked,
+  cover-long-reads.Learnt,
+  put-list-reads.Asked,
+  put-list-reads.Learnt,
+) (canonical-long-at t) canonical-long.Post
+canonical-long-canonical-long-requires t c κs = let e = ap turns (c .before .if1 .taken) in (omega (arith, e, c .before .before .before .before .before .pre .0), tt)
+
+canonical-long-same-length : (t : ℕ) → canonical-long-lts.Need-same-length (
+  canonical-long-below t,
+  canonical-long.Post,
+  cover-long-reads.Asked,
+  cover-long-reads.Learnt,
+  put-list-reads.Asked,
+  put-list-reads.Learnt,
+) (canonical-long-at t) canonical-long.Post
+canonical-long-same-length t c = search needs
+
+canonical-long-returns : (t : ℕ) → canonical-long-lts.Need-returns (
+  canonical-long-below t,
+  canonical-long.Post,
+  cover-long-reads.Asked,
+  cover-long-reads.Learnt,
+  put-list-reads.Asked,
+  put-list-reads.Learnt,
+) (canonical-long-at t) canonical-long.Post
+canonical-long-returns t c = c .before .before .canonical-long .ensures
+
+canonical-long-cover-long-requires : (t : ℕ) → canonical-long-lts.Need-cover-long-requires (
+  canonical-long-below t,
+  canonical-long.Post,
+  cover-long-reads.Asked,
+  cover-long-reads.Learnt,
+  put-list-reads.Asked,
+  put-list-reads.Learnt,
+) (canonical-long-at t) canonical-long.Post
+canonical-long-cover-long-requires t c κs = search needs
+
+canonical-long-enum-known-n : (t : ℕ) → canonical-long-lts.Need-enum-known-n (
+  canonical-long-below t,
+  canonical-long.Post,
+  cover-long-reads.Asked,
+  cover-long-reads.Learnt,
+  put-list-reads.Asked,
+  put-list-reads.Learnt,
+) (canonical-long-at t) canonical-long.Post
+canonical-long-enum-known-n t c = search needs
+
+canonical-long-slice-aggregate-put-list :
+    (t : ℕ) → canonical-long-lts.Need-slice-aggregate-put-list (
+      canonical-long-below t,
+      canonical-long.Post,
+      cover-long-reads.Asked,
+      cover-long-reads.Learnt,
+      put-list-reads.Asked,
+      put-list-reads.Learnt,
+    ) (canonical-long-at t) canonical-long.Post
+canonical-long-slice-aggregate-put-list t c = sym ((c .before .before .before .before .cover-long .ensures) .sized .0)
+
+canonical-long-slice-aggregate-put-list-2 :
+    (t : ℕ) → canonical-long-lts.Need-slice-aggregate-put-list-2 (
+      canonical-long-below t,
+      canonical-long.Post,
+      cover-long-reads.Asked,
+      cover-long-reads.Learnt,
+      put-list-reads.Asked,
+      put-list-reads.Learnt,
+    ) (canonical-long-at t) canonical-long.Post
+canonical-long-slice-aggregate-put-list-2 t c = sym ((c .before .before .before .before .before .cover-long .ensures) .sized .1)
+
+canonical-long-put-list-requires : (t : ℕ) → canonical-long-lts.Need-put-list-requires (
+  canonical-long-below t,
+  canonical-long.Post,
+  cover-long-reads.Asked,
+  cover-long-reads.Learnt,
+  put-list-reads.Asked,
+  put-list-reads.Learnt,
+) (canonical-long-at t) canonical-long.Post
+canonical-long-put-list-requires t c κs = let a = c .before .before .before .before .before .before .before .before .before .before .before .before .before .args in list-arrays (source (holding (a .locations) (a .split)) (a .encoding) (a .endian) (a .section .now) (a .offset) (a .base-address) (a .debug-addr .now) (a .debug-addr-base)) (record { section = λ i. omega (arith, c .before .before .before .before .before .before .before .before .before .before .before .before .shared-slice-known .given i); table = λ i. omega (arith, c .before .before .before .before .before .before .before .before .before .before .before .shared-slice-known2 .given i) }) (omega arith) (c .before .before .before .before .before .before .cover-long .ensures) (c .before .before .before .before .n .given .1)
+
+canonical-long-enum-told : (t : ℕ) → canonical-long-lts.Need-enum-told (
+  canonical-long-below t,
+  canonical-long.Post,
+  cover-long-reads.Asked,
+  cover-long-reads.Learnt,
+  put-list-reads.Asked,
+  put-list-reads.Learnt,
+) (canonical-long-at t) canonical-long.Post
+canonical-long-enum-told t c = search needs
+
+canonical-long-enum-known-e : (t : ℕ) → canonical-long-lts.Need-enum-known-e (
+  canonical-long-below t,
+  canonical-long.Post,
+  cover-long-reads.Asked,
+  cover-long-reads.Learnt,
+  put-list-reads.Asked,
+  put-list-reads.Learnt,
+) (canonical-long-at t) canonical-long.Post
+canonical-long-enum-known-e t c = search needs
+
+canonical-long-same-length-2 : (t : ℕ) → canonical-long-lts.Need-same-length-2 (
+  canonical-long-below t,
+  canonical-long.Post,
+  cover-long-reads.Asked,
+  cover-long-reads.Learnt,
+  put-list-reads.Asked,
+  put-list-reads.Learnt,
+) (canonical-long-at t) canonical-long.Post
+canonical-long-same-length-2 t c = search needs
+
+canonical-long-returns-2 : (t : ℕ) → canonical-long-lts.Need-returns-2 (
+  canonical-long-below t,
+  canonical-long.Post,
+  cover-long-reads.Asked,
+  cover-long-reads.Learnt,
+  put-list-reads.Asked,
+  put-list-reads.Learnt,
+) (canonical-long-at t) canonical-long.Post
+canonical-long-returns-2 t c = let a = c .before .before .before .before .before .before .before .before .before .before .before .before .before .before .before .before .args in list-put (source (holding (a .locations) (a .split)) (a .encoding) (a .endian) (a .section .now) (a .offset) (a .base-address) (a .debug-addr .now) (a .debug-addr-base)) (record { section = λ i. omega (arith, c .before .before .before .before .before .before .before .before .before .before .before .before .before .before .before .shared-slice-known .given i); table = λ i. omega (arith, c .before .before .before .before .before .before .before .before .before .before .before .before .before .before .shared-slice-known2 .given i) }) (omega arith) (c .before .before .before .before .before .before .before .before .before .cover-long .ensures) (c .before .before .before .before .before .before .before .n .given .1) (a .out .now) (c .before .before .put-list .result) (c .before .before .put-list .ensures)
+
+canonical-long-returns-3 : (t : ℕ) → canonical-long-lts.Need-returns-3 (
+  canonical-long-below t,
+  canonical-long.Post,
+  cover-long-reads.Asked,
+  cover-long-reads.Learnt,
+  put-list-reads.Asked,
+  put-list-reads.Learnt,
+) (canonical-long-at t) canonical-long.Post
+canonical-long-returns-3 t c = let a = c .before .before .before .before .before .before .before .before .before .args in list-refused (source (holding (a .locations) (a .split)) (a .encoding) (a .endian) (a .section .now) (a .offset) (a .base-address) (a .debug-addr .now) (a .debug-addr-base)) (a .out .now) TooManyRanges (full-refused (source (holding (a .locations) (a .split)) (a .encoding) (a .endian) (a .section .now) (a .offset) (a .base-address) (a .debug-addr .now) (a .debug-addr-base)) (c .before .before .cover-long .ensures) (c .enum-told .given .1))
+
+canonical-long-returns-4 : (t : ℕ) → canonical-long-lts.Need-returns-4 (
+  canonical-long-below t,
+  canonical-long.Post,
+  cover-long-reads.Asked,
+  cover-long-reads.Learnt,
+  put-list-reads.Asked,
+  put-list-reads.Learnt,
+) (canonical-long-at t) canonical-long.Post
+canonical-long-returns-4 t c = let a = c .before .before .before .before .before .before .before .before .before .before .args in list-refused (source (holding (a .locations) (a .split)) (a .encoding) (a .endian) (a .section .now) (a .offset) (a .base-address) (a .debug-addr .now) (a .debug-addr-base)) (a .out .now) (c .before .e .given .0 .0) (settled-refused (source (holding (a .locations) (a .split)) (a .encoding) (a .endian) (a .section .now) (a .offset) (a .base-address) (a .debug-addr .now) (a .debug-addr-base)) (omega arith) (c .before .before .before .cover-long .ensures) (c .before .e .given .1))
+
+pub +canonical-long-spec : {M : Type 1} → statement M
++canonical-long-spec = close μ-canonical-long λ t. canonical-long-lts.spec (
+  canonical-long-below t,
+  canonical-long.Post,
+  cover-long-reads.Asked,
+  cover-long-reads.Learnt,
+  put-list-reads.Asked,
+  put-list-reads.Learnt,
+)
+    (canonical-long-at t)
+    canonical-long.Post
+    (canonical-long-canonical-long-requires t)
+    (canonical-long-same-length t)
+    (canonical-long-returns t)
+    (canonical-long-cover-long-requires t)
+    (canonical-long-enum-known-n t)
+    (canonical-long-slice-aggregate-put-list t)
+    (canonical-long-slice-aggregate-put-list-2 t)
+    (canonical-long-put-list-requires t)
+    (canonical-long-enum-told t)
+    (canonical-long-enum-known-e t)
+    (canonical-long-same-length-2 t)
+    (canonical-long-returns-2 t)
+    (canonical-long-returns-3 t)
+    (canonical-long-returns-4 t)

@@ -1,0 +1,22 @@
+-- The coverage was put into two arrays of zeros. Assumes nothing.
+use mathlib.Core.Path.{_∙_}
+use Rattle.coverage.proofs.GatherLaws.{placed-coverage}
+use borrow.Author.Needs.{needs}
+use Rattle.coverage.proofs.collect.range_coverage.Statement.{statement}
+use Rattle.coverage.proofs.collect.range_coverage.Tie as tie
+use Rattle.coverage.proofs.collect.range_coverage.Reads as reads
+use Rattle.coverage.proofs.collect.range_coverage.Lts as lts
+use Rattle.coverage.proofs.collect.by_count.Reads as by-count-reads
+use Rattle.coverage.proofs.place.place_ranges.Reads as place-ranges-reads
+
+place-ranges-requires : tie.Need-place-ranges-requires
+place-ranges-requires c κs = search needs
+
+by-count-requires : tie.Need-by-count-requires
+by-count-requires c κs = search needs
+
+returns : tie.Need-returns
+returns c = c .by-count .ensures ∙ placed-coverage _ (c .before .place-ranges .ensures)
+
+pub range-coverage-spec : {M : Type 1} → statement M
+range-coverage-spec = tie.close (tie.spec place-ranges-requires by-count-requires returns)
