@@ -1,7 +1,6 @@
 -- A canonical list counted and written range by range: what is left of it, with what is done, is the same all along.
 -- Assumes nothing.
-use mathlib.Core.Path.{_≡_, refl, sym, ap, _∙_}
-use mathlib.Core.Bool.{true}
+use mathlib.Core.Path.{_≡_, refl, ap, _∙_}
 use mathlib.Core.List.{List, [], _∷_, _++_, append-assoc}
 use Prim.Native.Nat.{ℕ, suc, _+_, _-_, _*_, _≤_, _<_}
 use native.Mathlib.Numerals.{add-one}
@@ -9,7 +8,6 @@ use native.Mathlib.Omega.{arith}
 use lib.Dec.{leb}
 use lib.ListN.{length, drop, getD, set, length-take, length-append, length-set}
 use lib.Seq.{sets, length-sets}
-use borrow.Author.Tests.{le-leb}
 use Rattle.bytes.specs.Read.{pick}
 use Rattle.coverage.specs.Ranges.{Range, From, limit}
 use Rattle.bytes.specs.Written.{littleBytes, unsignedBytes}
@@ -43,11 +41,8 @@ unfolding canonicalBytes
 most-bytes [] = omega arith
 most-bytes (r ∷ rs) = omega (arith, length-first r rs, unsigned-length 9 (r .1 - r .0), most-bytes rs)
 
-firsts-bytes : (n : ℕ) (bs es : List ℕ) → length (canonicalBytes (firsts n bs es)) ≤ 19 * n + 1
+pub firsts-bytes : (n : ℕ) (bs es : List ℕ) → length (canonicalBytes (firsts n bs es)) ≤ 19 * n + 1
 firsts-bytes n bs es = omega (arith, most-bytes (firsts n bs es), length-take n (paired bs es))
-
-pub fits-most : (n : ℕ) (bs es : List ℕ) (len : ℕ) → n * 19 < len → true ≡ leb (length (canonicalBytes (firsts n bs es))) len
-fits-most n bs es len h = sym (le-leb (length (canonicalBytes (firsts n bs es))) len (omega (arith, firsts-bytes n bs es)))
 
 -- the ranges from the i-th on keep apart
 pub record Over (bs es : List ℕ) (n i : ℕ) : Type 0 where

@@ -9,7 +9,6 @@ use coverage::Wrote;
 use coverage::lawful::is_lawful;
 ghost use mathlib.Core.Path.{_≡_};
 ghost use Prim.Native.Nat.{_+_, _≤_};
-ghost use lib.Dec.{leb};
 ghost use lib.ListN.{length};
 ghost use lib.Seq.{sets};
 ghost use Rattle.bytes.specs.Written.{unsignedBytes};
@@ -18,7 +17,7 @@ ghost use Rattle.coverage.specs.Output.{output, written};
 ghost use Rattle.coverage.specs.Told.{toldWrote};
 ghost use Rattle.coverage.specs.Kept.{firsts};
 ghost use Rattle.canonical.specs.Arrays.{Arrays};
-ghost use Rattle.canonical.specs.Put.{Put};
+ghost use Rattle.canonical.specs.Put.{Enough, Put};
 
 // How many bytes the shortest unsigned LEB128 form of x has.
 fn unsigned_size(x: u64) -> usize
@@ -63,16 +62,17 @@ fn size(n: usize, begins: &[u64], ends: &[u64]) -> usize
     at + 1
 }
 
-// Whether so many bytes have room for the canonical list of the first n ranges. Where they have it for entries as long as an entry
-// can be, these are not counted.
-fn fits(n: usize, begins: &[u64], ends: &[u64], len: usize) -> bool
+// How many bytes are enough for the canonical list of the first n ranges. Where len bytes are enough for entries as long as an
+// entry can be, these are not counted.
+fn enough(n: usize, begins: &[u64], ends: &[u64], len: usize) -> usize
     requires { ⌜ Arrays n (now begins) (now ends) ⌝ }
-    ensures { λ r. ⌜ r ≡ leb (length (canonicalBytes (firsts n (now (begins .entry)) (now (ends .entry))))) len ⌝ }
+    ensures { λ r. ⌜ Enough r (length (canonicalBytes (firsts n (now (begins .entry)) (now (ends .entry))))) len ⌝ }
 {
-    if n * 19 < len {
-        return true;
+    let most = n * 19 + 1;
+    if most <= len {
+        return most;
     }
-    size(n, begins, ends) <= len
+    size(n, begins, ends)
 }
 
 // The canonical list of the first n ranges, from the output's begin on, and how many bytes it has.
@@ -102,10 +102,11 @@ pub(crate) fn put_list(n: usize, begins: &[u64], ends: &[u64], out: &mut [u8]) -
     requires { ⌜ Arrays n (now begins) (now ends) ⌝ }
     ensures { λ r. ⌜ Put r (canonicalBytes (firsts n (now (begins .entry)) (now (ends .entry)))) (now (out .entry)) (now (out .exit)) ⌝ }
 {
-    if fits(n, begins, ends, out.len()) {
-        return Wrote::Bytes(write(n, begins, ends, out));
+    let len = enough(n, begins, ends, out.len());
+    if out.len() < len {
+        return Wrote::Refused(Error::NoSpace);
     }
-    Wrote::Refused(Error::NoSpace)
+    Wrote::Bytes(write(n, begins, ends, out))
 }
 
 // The canonical list of a coverage, and how many bytes it has: 12 where the coverage makes no lawful sheet, then 11.

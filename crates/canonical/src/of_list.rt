@@ -68,7 +68,7 @@ fn canonical_long(
     ) {
         Collected::Got(n) => super::put_list(n, &begins, &ends, out),
         Collected::Full => Wrote::Refused(Error::TooManyRanges),
-        Collected::Refused(e) => Wrote::Refused(e),
+        Collected::Refused(error) => Wrote::Refused(error),
     }
 }
 

@@ -129,7 +129,7 @@ canonical-long-enum-told : (t : ℕ) → canonical-long-lts.Need-enum-told (
 ) (canonical-long-at t) canonical-long.Post
 canonical-long-enum-told t c = search needs
 
-canonical-long-enum-known-e : (t : ℕ) → canonical-long-lts.Need-enum-known-e (
+canonical-long-enum-known-error : (t : ℕ) → canonical-long-lts.Need-enum-known-error (
   canonical-long-below t,
   canonical-long.Post,
   cover-long-reads.Asked,
@@ -137,7 +137,7 @@ canonical-long-enum-known-e : (t : ℕ) → canonical-long-lts.Need-enum-known-e
   put-list-reads.Asked,
   put-list-reads.Learnt,
 ) (canonical-long-at t) canonical-long.Post
-canonical-long-enum-known-e t c = search needs
+canonical-long-enum-known-error t c = search needs
 
 canonical-long-same-length-2 : (t : ℕ) → canonical-long-lts.Need-same-length-2 (
   canonical-long-below t,
@@ -177,7 +177,7 @@ canonical-long-returns-4 : (t : ℕ) → canonical-long-lts.Need-returns-4 (
   put-list-reads.Asked,
   put-list-reads.Learnt,
 ) (canonical-long-at t) canonical-long.Post
-canonical-long-returns-4 t c = let a = c .before .before .before .before .before .before .before .before .before .before .args in list-refused (source (holding (a .locations) (a .split)) (a .encoding) (a .endian) (a .section .now) (a .offset) (a .base-address) (a .debug-addr .now) (a .debug-addr-base)) (a .out .now) (c .before .e .given .0 .0) (settled-refused (source (holding (a .locations) (a .split)) (a .encoding) (a .endian) (a .section .now) (a .offset) (a .base-address) (a .debug-addr .now) (a .debug-addr-base)) (omega arith) (c .before .before .before .cover-long .ensures) (c .before .e .given .1))
+canonical-long-returns-4 t c = let a = c .before .before .before .before .before .before .before .before .before .before .args in list-refused (source (holding (a .locations) (a .split)) (a .encoding) (a .endian) (a .section .now) (a .offset) (a .base-address) (a .debug-addr .now) (a .debug-addr-base)) (a .out .now) (c .before .error .given .0 .0) (settled-refused (source (holding (a .locations) (a .split)) (a .encoding) (a .endian) (a .section .now) (a .offset) (a .base-address) (a .debug-addr .now) (a .debug-addr-base)) (omega arith) (c .before .before .before .cover-long .ensures) (c .before .error .given .1))
 
 pub +canonical-long-spec : {M : Type 1} → statement M
 +canonical-long-spec = close μ-canonical-long λ t. canonical-long-lts.spec (
@@ -199,7 +199,7 @@ pub +canonical-long-spec : {M : Type 1} → statement M
     (canonical-long-slice-aggregate-put-list-2 t)
     (canonical-long-put-list-requires t)
     (canonical-long-enum-told t)
-    (canonical-long-enum-known-e t)
+    (canonical-long-enum-known-error t)
     (canonical-long-same-length-2 t)
     (canonical-long-returns-2 t)
     (canonical-long-returns-3 t)
