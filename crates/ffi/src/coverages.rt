@@ -2,8 +2,11 @@
 use coverage::Coverage;
 use ffi_words::coverages::Places;
 use ffi_words::coverages::YzCount;
+ghost use mathlib.Core.Bool.{true};
+ghost use mathlib.Core.Logic.{_↔_};
 ghost use mathlib.Core.Path.{_≡_};
 ghost use Rattle.canonical.specs.Canonical.{canonicalKept};
+ghost use Rattle.canonical.specs.Form.{CanonicalForm};
 ghost use Rattle.sheets.specs.Sheet.{sheetKept, sheetRanges};
 ghost use Rattle.coverage.specs.Output.{written};
 ghost use Rattle.coverage.specs.Told.{made};
@@ -49,4 +52,12 @@ pub extern "C" fn yz_canonical(n: u64, begins: &Places, ends: &Places, output: &
     };
     let r = canonical::canonical(coverage, output);
     ffi_words::coverages::count_written(r)
+}
+
+// Whether the bytes are the canonical list of some coverage.
+#[no_mangle]
+pub extern "C" fn yz_is_canonical(bytes: &[u8]) -> bool
+    ensures { λ r. ⌜ ((r ≡ true) ↔ CanonicalForm (now (bytes .entry))) ⌝ }
+{
+    canonical::form::is_canonical(bytes)
 }

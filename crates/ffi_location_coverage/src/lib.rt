@@ -8,9 +8,9 @@ ghost use mathlib.Core.Path.{_≡_};
 ghost use Rattle.coverage.specs.Covered.{locationList, source, coverageOf};
 ghost use Rattle.canonical.specs.Canonical.{canonicalOf};
 ghost use Rattle.coverage.specs.Output.{written};
-ghost use Rattle.coverage.specs.Told.{made};
+ghost use Rattle.coverage.specs.Told.{placing};
 ghost use Rattle.ffi_words.specs.Common.{endianIn, encodingOf, isSet, left};
-ghost use Rattle.ffi_words.specs.Coverages.{handed, handsOut, outputLeft};
+ghost use Rattle.ffi_words.specs.Coverages.{handed, placedTold, outputLeft};
 
 // The refusals of opening, then the first of a walk's refusal and 10.
 #[no_mangle]
@@ -25,12 +25,12 @@ pub extern "C" fn yz_location_coverage(
     begins: &mut Places,
     ends: &mut Places,
 ) -> YzCount
-    ensures { λ r. ⌜ handed r (now (begins .exit)) (now (ends .exit)) ≡ handsOut (made (coverageOf (source (locationList (isSet «file_type»)) (encodingOf encoding) (endianIn encoding) (now (section .entry)) offset «base_address» (now («debug_addr» .entry)) (record { 0 = «debug_addr_base» })))) (now (begins .entry)) (now (ends .entry)) ⌝ }
+    ensures { λ r. ⌜ handed r (now (begins .exit)) (now (ends .exit)) ≡ placedTold (placing (coverageOf (source (locationList (isSet «file_type»)) (encodingOf encoding) (endianIn encoding) (now (section .entry)) offset «base_address» (now («debug_addr» .entry)) (record { 0 = «debug_addr_base» })))) (now (begins .entry)) (now (ends .entry)) ⌝ }
 {
     let unit = ffi_words::common::encoding_of(encoding);
     let endian = ffi_words::common::endian_in(encoding);
     let file = ffi_words::common::file_of(file_type as u64);
-    let made = coverage::collect::location_coverage(
+    let r = coverage::place::place_locations(
         section,
         debug_addr,
         DebugAddrBase(debug_addr_base),
@@ -39,8 +39,10 @@ pub extern "C" fn yz_location_coverage(
         unit,
         endian,
         file,
+        begins,
+        ends,
     );
-    ffi_words::coverages::hand_out(made, begins, ends)
+    ffi_words::coverages::count_placed(r)
 }
 
 // The refusals of the coverage, then 11.

@@ -10,9 +10,9 @@ ghost use Rattle.bytes.specs.declared.common.Format.the-variants.{Dwarf32};
 ghost use Rattle.coverage.specs.Covered.{rangeList, source, coverageOf, readBack};
 ghost use Rattle.canonical.specs.Canonical.{canonicalOf};
 ghost use Rattle.coverage.specs.Output.{written};
-ghost use Rattle.coverage.specs.Told.{made};
+ghost use Rattle.coverage.specs.Told.{placing};
 ghost use Rattle.ffi_words.specs.Common.{endianIn, encodingOf, left};
-ghost use Rattle.ffi_words.specs.Coverages.{handed, handsOut, outputLeft};
+ghost use Rattle.ffi_words.specs.Coverages.{handed, placedTold, outputLeft};
 
 // The refusals of opening, then the first of a walk's refusal and 10.
 #[no_mangle]
@@ -26,11 +26,11 @@ pub extern "C" fn yz_range_coverage(
     begins: &mut Places,
     ends: &mut Places,
 ) -> YzCount
-    ensures { λ r. ⌜ handed r (now (begins .exit)) (now (ends .exit)) ≡ handsOut (made (coverageOf (source rangeList (encodingOf encoding) (endianIn encoding) (now (section .entry)) offset «base_address» (now («debug_addr» .entry)) (record { 0 = «debug_addr_base» })))) (now (begins .entry)) (now (ends .entry)) ⌝ }
+    ensures { λ r. ⌜ handed r (now (begins .exit)) (now (ends .exit)) ≡ placedTold (placing (coverageOf (source rangeList (encodingOf encoding) (endianIn encoding) (now (section .entry)) offset «base_address» (now («debug_addr» .entry)) (record { 0 = «debug_addr_base» })))) (now (begins .entry)) (now (ends .entry)) ⌝ }
 {
     let unit = ffi_words::common::encoding_of(encoding);
     let endian = ffi_words::common::endian_in(encoding);
-    let made = coverage::collect::range_coverage(
+    let r = coverage::place::place_ranges(
         section,
         debug_addr,
         DebugAddrBase(debug_addr_base),
@@ -38,8 +38,10 @@ pub extern "C" fn yz_range_coverage(
         base_address,
         unit,
         endian,
+        begins,
+        ends,
     );
-    ffi_words::coverages::hand_out(made, begins, ends)
+    ffi_words::coverages::count_placed(r)
 }
 
 // The refusals of the coverage, then 11.
@@ -77,8 +79,8 @@ pub extern "C" fn yz_coverage_from_canonical(
     begins: &mut Places,
     ends: &mut Places,
 ) -> YzCount
-    ensures { λ r. ⌜ handed r (now (begins .exit)) (now (ends .exit)) ≡ handsOut (made (coverageOf (readBack Dwarf32 (now (bytes .entry)) 0 [] (record { 0 = 0 })))) (now (begins .entry)) (now (ends .entry)) ⌝ }
+    ensures { λ r. ⌜ handed r (now (begins .exit)) (now (ends .exit)) ≡ placedTold (placing (coverageOf (readBack Dwarf32 (now (bytes .entry)) 0 [] (record { 0 = 0 })))) (now (begins .entry)) (now (ends .entry)) ⌝ }
 {
-    let made = coverage::collect::from_canonical(bytes);
-    ffi_words::coverages::hand_out(made, begins, ends)
+    let r = coverage::place::place_canonical(bytes, begins, ends);
+    ffi_words::coverages::count_placed(r)
 }

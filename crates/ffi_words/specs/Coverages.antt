@@ -3,7 +3,7 @@ use Prim.Native.Nat.{ℕ}
 use mathlib.Core.List.{List}
 use Rattle.bytes.specs.Read.{Result, gives, refused}
 use Rattle.coverage.specs.Output.{Output}
-use Rattle.coverage.specs.Told.{Answer}
+use Rattle.coverage.specs.Told.{Answer, Placed}
 use Rattle.coverage.specs.declared.Coverage.{Coverage}
 use Rattle.ffi_words.specs.Common.{done, refusedBy, Left, left}
 use Rattle.ffi_words.specs.declared.common.YzDone.{YzDone}
@@ -36,10 +36,14 @@ handsOut a bs es = byVerdict (a .verdict) (a .coverage) bs es
 abbrev pub coverageIn : ℕ → List ℕ → List ℕ → Coverage
 coverageIn n bs es = record { n = n; begins = bs; ends = es }
 
--- how many bytes were written, and the output then
+-- how many ranges or bytes were written, and the output then
 abbrev pub countWritten : Result ℕ → YzCount
 countWritten (gives n) = count done n
 countWritten (refused n vs) = noCount (refusedBy n vs)
 
 abbrev pub outputLeft : Output → Left YzCount
 outputLeft o = left (countWritten (o .answer)) (o .out)
+
+-- a coverage put into the two arrays that a caller lends
+abbrev pub placedTold : Placed → Handed
+placedTold p = handed (countWritten (p .answer)) (p .begins) (p .ends)

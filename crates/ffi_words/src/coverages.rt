@@ -1,12 +1,14 @@
 // Coverages, sheets and canonical lists.
 use super::common::DONE;
 use super::common::YzDone;
+use bytes::error::Error;
 use coverage::LIMIT;
 use coverage::Made;
 use coverage::Verdict;
 use coverage::Wrote;
+use coverage::collect::Collected;
 ghost use mathlib.Core.Path.{_≡_};
-ghost use Rattle.coverage.specs.Told.{toldMade, toldWrote};
+ghost use Rattle.coverage.specs.Told.{toldMade, toldWrote, toldCount};
 ghost use Rattle.ffi_words.specs.Common.{done};
 ghost use Rattle.ffi_words.specs.Coverages.{count as countOf, noCount, handed, handsOut, countWritten};
 
@@ -59,5 +61,15 @@ pub fn count_written(r: Wrote) -> YzCount
     match r {
         Wrote::Bytes(n) => count_told(n),
         Wrote::Refused(e) => no_count(super::common::refused(e)),
+    }
+}
+
+pub fn count_placed(r: Collected) -> YzCount
+    ensures { λ w. ⌜ w ≡ countWritten (toldCount r) ⌝ }
+{
+    match r {
+        Collected::Got(n) => count_told(n),
+        Collected::Full => no_count(super::common::refused(Error::TooManyRanges)),
+        Collected::Refused(e) => no_count(super::common::refused(e)),
     }
 }

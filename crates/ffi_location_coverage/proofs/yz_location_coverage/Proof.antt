@@ -1,5 +1,6 @@
+-- The call below puts the coverage into the lent arrays, and its count is told. Assumes nothing.
 use Rattle.ffi_words.proofs.WordLaws.{file-split}
-use Rattle.ffi_words.proofs.CoverageLaws.{handed-out}
+use Rattle.ffi_words.proofs.CoverageLaws.{placed-told}
 use borrow.Author.Needs.{needs}
 use Rattle.ffi_location_coverage.proofs.yz_location_coverage.Statement.{statement}
 use Rattle.ffi_location_coverage.proofs.yz_location_coverage.Tie as tie
@@ -13,17 +14,16 @@ endian-in-requires c κs = search needs
 file-of-requires : tie.Need-file-of-requires
 file-of-requires c κs = search needs
 
-location-coverage-requires : tie.Need-location-coverage-requires
-location-coverage-requires c κs = search needs
+place-locations-requires : tie.Need-place-locations-requires
+place-locations-requires c κs = search needs
 
-hand-out-requires : tie.Need-hand-out-requires
-hand-out-requires c κs = search needs
+count-placed-requires : tie.Need-count-placed-requires
+count-placed-requires c κs = search needs
 
 returns : tie.Need-returns
 returns c =
-    let a = c .before .before .before .before .before .before .before .before .before .args in
-    handed-out (a .begins .now) (a .ends .now) (c .hand-out .ensures)
-    (rw (c .before .before .before .before .file-of .ensures, file-split, c .before .before .before .before .before .endian-in .ensures, c .before .before .before .before .before .before .encoding-of .ensures) at (c .before .before .before .location-coverage .ensures))
+    placed-told _ (c .count-placed .ensures)
+    (rw (c .before .before .file-of .ensures, file-split, c .before .before .before .endian-in .ensures, c .before .before .before .before .encoding-of .ensures) at (c .before .place-locations .ensures))
 
 pub yz-location-coverage-spec : {M : Type 1} → statement M
 yz-location-coverage-spec =
@@ -32,6 +32,6 @@ yz-location-coverage-spec =
     encoding-of-requires
     endian-in-requires
     file-of-requires
-    location-coverage-requires
-    hand-out-requires
+    place-locations-requires
+    count-placed-requires
     returns)

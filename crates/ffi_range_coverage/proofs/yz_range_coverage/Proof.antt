@@ -1,4 +1,5 @@
-use Rattle.ffi_words.proofs.CoverageLaws.{handed-out}
+-- The call below puts the coverage into the lent arrays, and its count is told. Assumes nothing.
+use Rattle.ffi_words.proofs.CoverageLaws.{placed-told}
 use borrow.Author.Needs.{needs}
 use Rattle.ffi_range_coverage.proofs.yz_range_coverage.Statement.{statement}
 use Rattle.ffi_range_coverage.proofs.yz_range_coverage.Tie as tie
@@ -9,17 +10,16 @@ encoding-of-requires c κs = search needs
 endian-in-requires : tie.Need-endian-in-requires
 endian-in-requires c κs = search needs
 
-range-coverage-requires : tie.Need-range-coverage-requires
-range-coverage-requires c κs = search needs
+place-ranges-requires : tie.Need-place-ranges-requires
+place-ranges-requires c κs = search needs
 
-hand-out-requires : tie.Need-hand-out-requires
-hand-out-requires c κs = search needs
+count-placed-requires : tie.Need-count-placed-requires
+count-placed-requires c κs = search needs
 
 returns : tie.Need-returns
 returns c =
-    let a = c .before .before .before .before .before .before .before .before .args in
-    handed-out (a .begins .now) (a .ends .now) (c .hand-out .ensures)
-    (rw (c .before .before .before .before .endian-in .ensures, c .before .before .before .before .before .encoding-of .ensures) at (c .before .before .before .range-coverage .ensures))
+    placed-told _ (c .count-placed .ensures)
+    (rw (c .before .before .endian-in .ensures, c .before .before .before .encoding-of .ensures) at (c .before .place-ranges .ensures))
 
 pub yz-range-coverage-spec : {M : Type 1} → statement M
 yz-range-coverage-spec =
@@ -27,6 +27,6 @@ yz-range-coverage-spec =
     (tie.spec
     encoding-of-requires
     endian-in-requires
-    range-coverage-requires
-    hand-out-requires
+    place-ranges-requires
+    count-placed-requires
     returns)
