@@ -25,7 +25,7 @@ pub extern "C" fn yz_location_coverage(
     begins: &mut Places,
     ends: &mut Places,
 ) -> YzCount
-    ensures { λ r. ⌜ handed r (now (begins .exit)) (now (ends .exit)) ≡ placedTold (placing (coverageOf (source (locationList (isSet «file_type»)) (encodingOf encoding) (endianIn encoding) (now (section .entry)) offset «base_address» (now («debug_addr» .entry)) (record { 0 = «debug_addr_base» })))) (now (begins .entry)) (now (ends .entry)) ⌝ }
+    ensures { λ r. ⌜ handed r (now (begins .exit)) (now (ends .exit)) ≡ placedTold (placing (coverageOf (source (locationList (isSet «file_type»)) (encodingOf encoding) (endianIn encoding) (now (section .entry)) offset «base_address» (now («debug_addr» .entry)) (record { 0 = «debug_addr_base» }))) (now (begins .entry)) (now (ends .entry))) ⌝ }
 {
     let unit = ffi_words::common::encoding_of(encoding);
     let endian = ffi_words::common::endian_in(encoding);

@@ -26,7 +26,7 @@ pub extern "C" fn yz_range_coverage(
     begins: &mut Places,
     ends: &mut Places,
 ) -> YzCount
-    ensures { λ r. ⌜ handed r (now (begins .exit)) (now (ends .exit)) ≡ placedTold (placing (coverageOf (source rangeList (encodingOf encoding) (endianIn encoding) (now (section .entry)) offset «base_address» (now («debug_addr» .entry)) (record { 0 = «debug_addr_base» })))) (now (begins .entry)) (now (ends .entry)) ⌝ }
+    ensures { λ r. ⌜ handed r (now (begins .exit)) (now (ends .exit)) ≡ placedTold (placing (coverageOf (source rangeList (encodingOf encoding) (endianIn encoding) (now (section .entry)) offset «base_address» (now («debug_addr» .entry)) (record { 0 = «debug_addr_base» }))) (now (begins .entry)) (now (ends .entry))) ⌝ }
 {
     let unit = ffi_words::common::encoding_of(encoding);
     let endian = ffi_words::common::endian_in(encoding);
@@ -79,7 +79,7 @@ pub extern "C" fn yz_coverage_from_canonical(
     begins: &mut Places,
     ends: &mut Places,
 ) -> YzCount
-    ensures { λ r. ⌜ handed r (now (begins .exit)) (now (ends .exit)) ≡ placedTold (placing (coverageOf (readBack Dwarf32 (now (bytes .entry)) 0 [] (record { 0 = 0 })))) (now (begins .entry)) (now (ends .entry)) ⌝ }
+    ensures { λ r. ⌜ handed r (now (begins .exit)) (now (ends .exit)) ≡ placedTold (placing (coverageOf (readBack Dwarf32 (now (bytes .entry)) 0 [] (record { 0 = 0 }))) (now (begins .entry)) (now (ends .entry))) ⌝ }
 {
     let r = coverage::place::place_canonical(bytes, begins, ends);
     ffi_words::coverages::count_placed(r)

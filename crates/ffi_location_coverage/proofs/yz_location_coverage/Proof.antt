@@ -23,7 +23,7 @@ count-placed-requires c κs = search needs
 returns : tie.Need-returns
 returns c =
     placed-told _ (c .count-placed .ensures)
-    (rw (c .before .before .file-of .ensures, file-split, c .before .before .before .endian-in .ensures, c .before .before .before .before .encoding-of .ensures) at (c .before .place-locations .ensures))
+    (rw (c .before .before .before .before .file-of .ensures, file-split, c .before .before .before .before .before .endian-in .ensures, c .before .before .before .before .before .before .encoding-of .ensures) at (c .before .place-locations .ensures))
 
 pub yz-location-coverage-spec : {M : Type 1} → statement M
 yz-location-coverage-spec =

@@ -19,7 +19,7 @@ count-placed-requires c κs = search needs
 returns : tie.Need-returns
 returns c =
     placed-told _ (c .count-placed .ensures)
-    (rw (c .before .before .endian-in .ensures, c .before .before .before .encoding-of .ensures) at (c .before .place-ranges .ensures))
+    (rw (c .before .before .before .before .endian-in .ensures, c .before .before .before .before .before .encoding-of .ensures) at (c .before .place-ranges .ensures))
 
 pub yz-range-coverage-spec : {M : Type 1} → statement M
 yz-range-coverage-spec =
