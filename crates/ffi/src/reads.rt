@@ -1,143 +1,119 @@
 // Numbers read at a place of a section.
-use ffi_words::words::Words4;
+use ffi_words::common::YzEncoding;
+use ffi_words::reads::YzNumber;
+use ffi_words::reads::YzPlace;
+use ffi_words::reads::YzRead;
+use ffi_words::reads::YzSplitPart;
+use ffi_words::reads::YzUnitLength;
 ghost use mathlib.Core.Path.{_≡_};
-ghost use mathlib.Core.List.{_∷_};
 ghost use Rattle.bytes.specs.Address.{addSized, ones, minTombstone};
 ghost use Rattle.bytes.specs.Leb128.{unsigned as unsignedAt};
 ghost use Rattle.bytes.specs.Reader.{skip as skipped, split as splitOff, truncate as cut, uint, address, addressSize, word, initialLength};
 ghost use Rattle.bytes.specs.declared.endianity.RunTimeEndian.the-variants.{Little};
-ghost use Rattle.ffi_words.specs.Words.{endianOf, formatOf, numberRead, placeRead, spanRead, lengthRead};
+ghost use Rattle.ffi_words.specs.Common.{endianOf, formatOf};
+ghost use Rattle.ffi_words.specs.Reads.{numberRead, numberOnly, placeRead, partRead, lengthRead};
 
 #[no_mangle]
-pub extern "C" fn yz_uleb128(section: &[u8], at: usize, out: &mut Words4) -> u64
-    ensures { λ r. ⌜ r ∷ now (out .exit) ≡ numberRead (unsignedAt (now (section .entry)) at) ⌝ }
+pub extern "C" fn yz_uleb128(section: &[u8], at: usize) -> YzRead
+    ensures { λ r. ⌜ r ≡ numberRead (unsignedAt (now (section .entry)) at) ⌝ }
 {
     let r = bytes::leb128::unsigned(section, at);
-    let w = ffi_words::reads::number_words(r);
-    ffi_words::words::write_four(out, w)
+    ffi_words::reads::read_number(r)
 }
 
 #[no_mangle]
-pub extern "C" fn yz_read_u8(section: &[u8], at: usize, out: &mut Words4) -> u64
-    ensures { λ r. ⌜ r ∷ now (out .exit) ≡ numberRead (uint Little 1 (now (section .entry)) at) ⌝ }
+pub extern "C" fn yz_read_u8(section: &[u8], at: usize) -> YzRead
+    ensures { λ r. ⌜ r ≡ numberRead (uint Little 1 (now (section .entry)) at) ⌝ }
 {
     let r = bytes::reader::read_u8(section, at);
-    let w = ffi_words::reads::number_words(r);
-    ffi_words::words::write_four(out, w)
+    ffi_words::reads::read_number(r)
 }
 
 #[no_mangle]
-pub extern "C" fn yz_read_u16(section: &[u8], at: usize, big_endian: bool, out: &mut Words4) -> u64
-    ensures { λ r. ⌜ r ∷ now (out .exit) ≡ numberRead (uint (endianOf «big_endian») 2 (now (section .entry)) at) ⌝ }
+pub extern "C" fn yz_read_u16(section: &[u8], big_endian: bool, at: usize) -> YzRead
+    ensures { λ r. ⌜ r ≡ numberRead (uint (endianOf «big_endian») 2 (now (section .entry)) at) ⌝ }
 {
-    let endian = ffi_words::words::endian_of(big_endian);
+    let endian = ffi_words::common::endian_of(big_endian);
     let r = bytes::reader::read_u16(section, at, endian);
-    let w = ffi_words::reads::number_words(r);
-    ffi_words::words::write_four(out, w)
+    ffi_words::reads::read_number(r)
 }
 
 #[no_mangle]
-pub extern "C" fn yz_read_u32(section: &[u8], at: usize, big_endian: bool, out: &mut Words4) -> u64
-    ensures { λ r. ⌜ r ∷ now (out .exit) ≡ numberRead (uint (endianOf «big_endian») 4 (now (section .entry)) at) ⌝ }
+pub extern "C" fn yz_read_u32(section: &[u8], big_endian: bool, at: usize) -> YzRead
+    ensures { λ r. ⌜ r ≡ numberRead (uint (endianOf «big_endian») 4 (now (section .entry)) at) ⌝ }
 {
-    let endian = ffi_words::words::endian_of(big_endian);
+    let endian = ffi_words::common::endian_of(big_endian);
     let r = bytes::reader::read_u32(section, at, endian);
-    let w = ffi_words::reads::number_words(r);
-    ffi_words::words::write_four(out, w)
+    ffi_words::reads::read_number(r)
 }
 
 #[no_mangle]
-pub extern "C" fn yz_read_u64(section: &[u8], at: usize, big_endian: bool, out: &mut Words4) -> u64
-    ensures { λ r. ⌜ r ∷ now (out .exit) ≡ numberRead (uint (endianOf «big_endian») 8 (now (section .entry)) at) ⌝ }
+pub extern "C" fn yz_read_u64(section: &[u8], big_endian: bool, at: usize) -> YzRead
+    ensures { λ r. ⌜ r ≡ numberRead (uint (endianOf «big_endian») 8 (now (section .entry)) at) ⌝ }
 {
-    let endian = ffi_words::words::endian_of(big_endian);
+    let endian = ffi_words::common::endian_of(big_endian);
     let r = bytes::reader::read_u64(section, at, endian);
-    let w = ffi_words::reads::number_words(r);
-    ffi_words::words::write_four(out, w)
+    ffi_words::reads::read_number(r)
 }
 
 #[no_mangle]
-pub extern "C" fn yz_read_address(
-    section: &[u8],
-    at: usize,
-    address_size: u8,
-    big_endian: bool,
-    out: &mut Words4,
-) -> u64
-    ensures { λ r. ⌜ r ∷ now (out .exit) ≡ numberRead (address (endianOf «big_endian») «address_size» (now (section .entry)) at) ⌝ }
+pub extern "C" fn yz_read_address(section: &[u8], encoding: YzEncoding, at: usize) -> YzRead
+    ensures { λ r. ⌜ r ≡ numberRead (address (endianOf (encoding .«big_endian»)) (encoding .«address_size») (now (section .entry)) at) ⌝ }
 {
-    let endian = ffi_words::words::endian_of(big_endian);
-    let r = bytes::reader::read_address(section, at, address_size, endian);
-    let w = ffi_words::reads::number_words(r);
-    ffi_words::words::write_four(out, w)
+    let endian = ffi_words::common::endian_of(encoding.big_endian);
+    let r = bytes::reader::read_address(section, at, encoding.address_size, endian);
+    ffi_words::reads::read_number(r)
 }
 
 #[no_mangle]
-pub extern "C" fn yz_read_address_size(section: &[u8], at: usize, out: &mut Words4) -> u64
-    ensures { λ r. ⌜ r ∷ now (out .exit) ≡ numberRead (addressSize (now (section .entry)) at) ⌝ }
+pub extern "C" fn yz_read_address_size(section: &[u8], at: usize) -> YzRead
+    ensures { λ r. ⌜ r ≡ numberRead (addressSize (now (section .entry)) at) ⌝ }
 {
     let r = bytes::reader::read_address_size(section, at);
-    let w = ffi_words::reads::number_words(r);
-    ffi_words::words::write_four(out, w)
+    ffi_words::reads::read_number(r)
 }
 
 #[no_mangle]
-pub extern "C" fn yz_read_offset(
-    section: &[u8],
-    at: usize,
-    dwarf64: bool,
-    big_endian: bool,
-    out: &mut Words4,
-) -> u64
-    ensures { λ r. ⌜ r ∷ now (out .exit) ≡ numberRead (word (endianOf «big_endian») (formatOf dwarf64) (now (section .entry)) at) ⌝ }
+pub extern "C" fn yz_read_offset(section: &[u8], encoding: YzEncoding, at: usize) -> YzRead
+    ensures { λ r. ⌜ r ≡ numberRead (word (endianOf (encoding .«big_endian»)) (formatOf (encoding .dwarf64)) (now (section .entry)) at) ⌝ }
 {
-    let format = ffi_words::words::format_of(dwarf64);
-    let endian = ffi_words::words::endian_of(big_endian);
+    let format = ffi_words::common::format_of(encoding.dwarf64);
+    let endian = ffi_words::common::endian_of(encoding.big_endian);
     let r = bytes::reader::read_offset(section, at, format, endian);
-    let w = ffi_words::reads::number_words(r);
-    ffi_words::words::write_four(out, w)
+    ffi_words::reads::read_number(r)
 }
 
 #[no_mangle]
-pub extern "C" fn yz_initial_length(
-    section: &[u8],
-    at: usize,
-    big_endian: bool,
-    out: &mut Words4,
-) -> u64
-    ensures { λ r. ⌜ r ∷ now (out .exit) ≡ lengthRead (initialLength (endianOf «big_endian») (now (section .entry)) at) ⌝ }
+pub extern "C" fn yz_initial_length(section: &[u8], big_endian: bool, at: usize) -> YzUnitLength
+    ensures { λ r. ⌜ r ≡ lengthRead (initialLength (endianOf «big_endian») (now (section .entry)) at) ⌝ }
 {
-    let endian = ffi_words::words::endian_of(big_endian);
+    let endian = ffi_words::common::endian_of(big_endian);
     let r = bytes::reader::read_initial_length(section, at, endian);
-    let w = ffi_words::reads::length_words(r);
-    ffi_words::words::write_four(out, w)
+    ffi_words::reads::read_length(r)
 }
 
 #[no_mangle]
-pub extern "C" fn yz_skip(section: &[u8], at: usize, len: u64, out: &mut Words4) -> u64
-    ensures { λ r. ⌜ r ∷ now (out .exit) ≡ placeRead (skipped len (now (section .entry)) at) ⌝ }
+pub extern "C" fn yz_skip(section: &[u8], at: usize, len: u64) -> YzPlace
+    ensures { λ r. ⌜ r ≡ placeRead (skipped len (now (section .entry)) at) ⌝ }
 {
     let r = bytes::reader::skip(section, at, len);
-    let w = ffi_words::reads::place_words(r);
-    ffi_words::words::write_four(out, w)
+    ffi_words::reads::read_place(r)
 }
 
 #[no_mangle]
-pub extern "C" fn yz_split(section: &[u8], at: usize, len: u64, out: &mut Words4) -> u64
-    ensures { λ r. ⌜ r ∷ now (out .exit) ≡ spanRead (splitOff len (now (section .entry)) at) ⌝ }
+pub extern "C" fn yz_split(section: &[u8], at: usize, len: u64) -> YzSplitPart
+    ensures { λ r. ⌜ r ≡ partRead (splitOff len (now (section .entry)) at) ⌝ }
 {
     let r = bytes::reader::split(section, at, len);
-    let w = ffi_words::reads::span_words(r);
-    ffi_words::words::write_four(out, w)
+    ffi_words::reads::read_part(r)
 }
 
 #[no_mangle]
-pub extern "C" fn yz_truncate(section: &[u8], at: usize, len: u64, out: &mut Words4) -> u64
-    ensures { λ r. ⌜ r ∷ now (out .exit) ≡ numberRead (cut len (now (section .entry)) at) ⌝ }
+pub extern "C" fn yz_truncate(section: &[u8], at: usize, len: u64) -> YzNumber
+    ensures { λ r. ⌜ r ≡ numberOnly (cut len (now (section .entry)) at) ⌝ }
 {
     let r = bytes::reader::truncate(section, at, len);
-    let w = ffi_words::reads::number_words(r);
-    ffi_words::words::write_four(out, w)
+    ffi_words::reads::number_only(r)
 }
 
 #[no_mangle]

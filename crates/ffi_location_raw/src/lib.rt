@@ -1,70 +1,55 @@
 // Raw entries of location lists, and what they come to.
 use bytes::common::DebugAddrBase;
-use entries::Expression;
-use ffi_words::words::Words8;
-use lists::Walk;
+use ffi_words::common::YzEncoding;
+use ffi_words::locations::YzLocation;
+use ffi_words::locations::YzLocationEntry;
+use ffi_words::locations::YzRawLocation;
+use ffi_words::walks::WalkWords;
 ghost use mathlib.Core.Path.{_≡_};
-ghost use mathlib.Core.List.{_∷_};
 ghost use Rattle.lists.specs.Walk.{nextRawLocation};
-ghost use Rattle.ffi_words.specs.Words.{endianOf, encodingOf, walkOf};
-ghost use Rattle.ffi_words.specs.ListWords.{rawLocationNext, convertLocationWords, locationOutcome};
+ghost use Rattle.ffi_words.specs.Common.{endianOf, encodingOf, left};
+ghost use Rattle.ffi_words.specs.Walks.{walkIn, splitIn};
+ghost use Rattle.ffi_words.specs.Entries.{locationIn, noLocationEntry, heardLocation, rawNext, convertLocation};
+ghost use Rattle.ffi_words.specs.Locations.{locationOutcome};
 
+// The entry can be handed back in as it is.
 #[no_mangle]
 pub extern "C" fn yz_location_next_raw(
     section: &[u8],
-    address_size: u8,
-    dwarf64: bool,
-    version: u16,
-    big_endian: bool,
-    split: bool,
-    io: &mut Words8,
-) -> u64
-    ensures { λ r. ⌜ r ∷ now (io .exit) ≡ rawLocationNext (nextRawLocation split (encodingOf «address_size» dwarf64 version) (endianOf «big_endian») (now (section .entry)) (walkOf (now (io .entry)))) ⌝ }
+    encoding: YzEncoding,
+    walk: &mut WalkWords,
+) -> YzRawLocation
+    ensures { λ r. ⌜ heardLocation r (now (walk .exit)) ≡ rawNext (locationIn noLocationEntry) (now (walk .entry)) (nextRawLocation (splitIn (now (walk .entry))) (encodingOf encoding) (endianOf (encoding .«big_endian»)) (now (section .entry)) (walkIn (now (walk .entry)))) ⌝ }
 {
-    let at = io[0] as usize;
-    let base_address = io[1];
-    let encoding = ffi_words::words::encoding_of(address_size, dwarf64, version);
-    let endian = ffi_words::words::endian_of(big_endian);
-    let walk = Walk { at, base_address };
-    let r = lists::loclists::next_raw(section, walk, encoding, endian, split);
-    let w = ffi_words::locations::raw_words(r);
-    ffi_words::words::write_eight(io, w)
+    let start = ffi_words::walks::walk_in(walk);
+    let split = ffi_words::walks::split_in(walk);
+    let unit = ffi_words::common::encoding_of(encoding);
+    let endian = ffi_words::common::endian_of(encoding.big_endian);
+    let r = lists::loclists::next_raw(section, start, unit, endian, split);
+    ffi_words::locations::raw_location(r, walk)
 }
 
+// 6 with the size before all else, then 4 for a code above the kinds, then the refusals of the address table.
 #[no_mangle]
 pub extern "C" fn yz_location_convert_raw(
     debug_addr: &[u8],
     debug_addr_base: u64,
-    address_size: u8,
-    dwarf64: bool,
-    version: u16,
-    big_endian: bool,
-    io: &mut Words8,
-) -> u64
-    ensures { λ r. ⌜ r ∷ now (io .exit) ≡ locationOutcome (convertLocationWords (encodingOf «address_size» dwarf64 version) (endianOf «big_endian») (now («debug_addr» .entry)) (record { 0 = «debug_addr_base» }) (now (io .entry))) ⌝ }
+    encoding: YzEncoding,
+    entry: YzLocationEntry,
+    walk: &mut WalkWords,
+) -> YzLocation
+    ensures { λ r. ⌜ left r (now (walk .exit)) ≡ locationOutcome (now (walk .entry)) (convertLocation (encodingOf encoding) (endianOf (encoding .«big_endian»)) (now («debug_addr» .entry)) (record { 0 = «debug_addr_base» }) (walkIn (now (walk .entry))) entry) ⌝ }
 {
-    let at = io[0] as usize;
-    let base_address = io[1];
-    let code = io[2];
-    let first = io[3];
-    let second = io[4];
-    let offset = io[5] as usize;
-    let len = io[6] as usize;
-    let encoding = ffi_words::words::encoding_of(address_size, dwarf64, version);
-    let endian = ffi_words::words::endian_of(big_endian);
-    let walk = Walk { at, base_address };
-    let x = Expression { offset, len };
+    let start = ffi_words::walks::walk_in(walk);
+    let unit = ffi_words::common::encoding_of(encoding);
+    let endian = ffi_words::common::endian_of(encoding.big_endian);
     let r = ffi_words::locations::convert(
-        code,
-        first,
-        second,
-        x,
+        entry,
         debug_addr,
         DebugAddrBase(debug_addr_base),
-        walk,
-        encoding,
+        start,
+        unit,
         endian,
     );
-    let w = ffi_words::locations::converted_words(r);
-    ffi_words::words::write_eight(io, w)
+    ffi_words::locations::location_converted(r, walk)
 }

@@ -1,37 +1,33 @@
 // Walks of location lists.
 use bytes::common::DebugAddrBase;
 use bytes::common::LocationListsOffset;
-use ffi_words::words::Words4;
-use ffi_words::words::Words8;
-use lists::Walk;
+use ffi_words::common::YzDone;
+use ffi_words::common::YzEncoding;
+use ffi_words::locations::YzLocation;
+use ffi_words::walks::WalkWords;
 ghost use mathlib.Core.Path.{_≡_};
-ghost use mathlib.Core.List.{_∷_};
 ghost use Rattle.lists.specs.Open.{opened};
 ghost use Rattle.lists.specs.Walk.{nextLocation};
-ghost use Rattle.ffi_words.specs.Words.{endianOf, encodingOf, walkOf};
-ghost use Rattle.ffi_words.specs.ListWords.{opening, locationNext};
+ghost use Rattle.ffi_words.specs.Common.{endianOf, encodingOf, isSet, left};
+ghost use Rattle.ffi_words.specs.Walks.{walkIn, splitIn, openedWords};
+ghost use Rattle.ffi_words.specs.Locations.{locationNext};
 
+// The list of a .dwo file is split. A refused opening leaves the walk as it was.
 #[no_mangle]
 pub extern "C" fn yz_location_open(
     section: &[u8],
+    encoding: YzEncoding,
+    file_type: u32,
     offset: u64,
-    address_size: u8,
-    dwarf64: bool,
-    version: u16,
     base_address: u64,
-    out: &mut Words4,
-) -> u64
-    ensures { λ r. ⌜ r ∷ now (out .exit) ≡ opening (opened (encodingOf «address_size» dwarf64 version) (now (section .entry)) offset «base_address») ⌝ }
+    walk: &mut WalkWords,
+) -> YzDone
+    ensures { λ r. ⌜ left r (now (walk .exit)) ≡ openedWords (now (walk .entry)) (isSet «file_type») (opened (encodingOf encoding) (now (section .entry)) offset «base_address») ⌝ }
 {
-    let encoding = ffi_words::words::encoding_of(address_size, dwarf64, version);
-    let r = lists::loclists::locations(
-        section,
-        LocationListsOffset(offset),
-        encoding,
-        base_address,
-    );
-    let w = ffi_words::ranges::opened_words(r);
-    ffi_words::words::write_four(out, w)
+    let unit = ffi_words::common::encoding_of(encoding);
+    let split = ffi_words::common::is_set(file_type as u64);
+    let r = lists::loclists::locations(section, LocationListsOffset(offset), unit, base_address);
+    ffi_words::walks::opened(r, split, walk)
 }
 
 #[no_mangle]
@@ -39,29 +35,23 @@ pub extern "C" fn yz_location_next(
     section: &[u8],
     debug_addr: &[u8],
     debug_addr_base: u64,
-    address_size: u8,
-    dwarf64: bool,
-    version: u16,
-    big_endian: bool,
-    split: bool,
-    io: &mut Words8,
-) -> u64
-    ensures { λ r. ⌜ r ∷ now (io .exit) ≡ locationNext (nextLocation split (encodingOf «address_size» dwarf64 version) (endianOf «big_endian») (now (section .entry)) (now («debug_addr» .entry)) (record { 0 = «debug_addr_base» }) (walkOf (now (io .entry)))) ⌝ }
+    encoding: YzEncoding,
+    walk: &mut WalkWords,
+) -> YzLocation
+    ensures { λ r. ⌜ left r (now (walk .exit)) ≡ locationNext (now (walk .entry)) (nextLocation (splitIn (now (walk .entry))) (encodingOf encoding) (endianOf (encoding .«big_endian»)) (now (section .entry)) (now («debug_addr» .entry)) (record { 0 = «debug_addr_base» }) (walkIn (now (walk .entry)))) ⌝ }
 {
-    let at = io[0] as usize;
-    let base_address = io[1];
-    let encoding = ffi_words::words::encoding_of(address_size, dwarf64, version);
-    let endian = ffi_words::words::endian_of(big_endian);
-    let walk = Walk { at, base_address };
+    let start = ffi_words::walks::walk_in(walk);
+    let split = ffi_words::walks::split_in(walk);
+    let unit = ffi_words::common::encoding_of(encoding);
+    let endian = ffi_words::common::endian_of(encoding.big_endian);
     let r = lists::loclists::next(
         section,
         debug_addr,
         DebugAddrBase(debug_addr_base),
-        walk,
-        encoding,
+        start,
+        unit,
         endian,
         split,
     );
-    let w = ffi_words::locations::location_words(r);
-    ffi_words::words::write_eight(io, w)
+    ffi_words::locations::location_next(r, walk)
 }

@@ -1,64 +1,54 @@
 // Raw entries of range lists, and what they come to.
 use bytes::common::DebugAddrBase;
-use ffi_words::words::Words8;
-use lists::Walk;
+use ffi_words::common::YzEncoding;
+use ffi_words::ranges::YzRange;
+use ffi_words::ranges::YzRangeEntry;
+use ffi_words::ranges::YzRawRange;
+use ffi_words::walks::WalkWords;
 ghost use mathlib.Core.Path.{_≡_};
-ghost use mathlib.Core.List.{_∷_};
 ghost use Rattle.lists.specs.Walk.{nextRawRange};
-ghost use Rattle.ffi_words.specs.Words.{endianOf, encodingOf, walkOf};
-ghost use Rattle.ffi_words.specs.ListWords.{rawRangeNext, convertRangeWords, rangeOutcome};
+ghost use Rattle.ffi_words.specs.Common.{endianOf, encodingOf, left};
+ghost use Rattle.ffi_words.specs.Walks.{walkIn};
+ghost use Rattle.ffi_words.specs.Entries.{rangeIn, noRangeEntry, heardRange, rawNext, convertRange};
+ghost use Rattle.ffi_words.specs.Ranges.{rangeOutcome};
 
+// The entry can be handed back in as it is.
 #[no_mangle]
 pub extern "C" fn yz_range_next_raw(
     section: &[u8],
-    address_size: u8,
-    dwarf64: bool,
-    version: u16,
-    big_endian: bool,
-    io: &mut Words8,
-) -> u64
-    ensures { λ r. ⌜ r ∷ now (io .exit) ≡ rawRangeNext (nextRawRange (encodingOf «address_size» dwarf64 version) (endianOf «big_endian») (now (section .entry)) (walkOf (now (io .entry)))) ⌝ }
+    encoding: YzEncoding,
+    walk: &mut WalkWords,
+) -> YzRawRange
+    ensures { λ r. ⌜ heardRange r (now (walk .exit)) ≡ rawNext (rangeIn noRangeEntry) (now (walk .entry)) (nextRawRange (encodingOf encoding) (endianOf (encoding .«big_endian»)) (now (section .entry)) (walkIn (now (walk .entry)))) ⌝ }
 {
-    let at = io[0] as usize;
-    let base_address = io[1];
-    let encoding = ffi_words::words::encoding_of(address_size, dwarf64, version);
-    let endian = ffi_words::words::endian_of(big_endian);
-    let walk = Walk { at, base_address };
-    let r = lists::rnglists::next_raw(section, walk, encoding, endian);
-    let w = ffi_words::ranges::raw_words(r);
-    ffi_words::words::write_eight(io, w)
+    let start = ffi_words::walks::walk_in(walk);
+    let unit = ffi_words::common::encoding_of(encoding);
+    let endian = ffi_words::common::endian_of(encoding.big_endian);
+    let r = lists::rnglists::next_raw(section, start, unit, endian);
+    ffi_words::ranges::raw_range(r, walk)
 }
 
+// 6 with the size before all else, then 3 for a code above the kinds, then the refusals of the address table.
 #[no_mangle]
 pub extern "C" fn yz_range_convert_raw(
     debug_addr: &[u8],
     debug_addr_base: u64,
-    address_size: u8,
-    dwarf64: bool,
-    version: u16,
-    big_endian: bool,
-    io: &mut Words8,
-) -> u64
-    ensures { λ r. ⌜ r ∷ now (io .exit) ≡ rangeOutcome (convertRangeWords (encodingOf «address_size» dwarf64 version) (endianOf «big_endian») (now («debug_addr» .entry)) (record { 0 = «debug_addr_base» }) (now (io .entry))) ⌝ }
+    encoding: YzEncoding,
+    entry: YzRangeEntry,
+    walk: &mut WalkWords,
+) -> YzRange
+    ensures { λ r. ⌜ left r (now (walk .exit)) ≡ rangeOutcome (now (walk .entry)) (convertRange (encodingOf encoding) (endianOf (encoding .«big_endian»)) (now («debug_addr» .entry)) (record { 0 = «debug_addr_base» }) (walkIn (now (walk .entry))) entry) ⌝ }
 {
-    let at = io[0] as usize;
-    let base_address = io[1];
-    let code = io[2];
-    let first = io[3];
-    let second = io[4];
-    let encoding = ffi_words::words::encoding_of(address_size, dwarf64, version);
-    let endian = ffi_words::words::endian_of(big_endian);
-    let walk = Walk { at, base_address };
+    let start = ffi_words::walks::walk_in(walk);
+    let unit = ffi_words::common::encoding_of(encoding);
+    let endian = ffi_words::common::endian_of(encoding.big_endian);
     let r = ffi_words::ranges::convert(
-        code,
-        first,
-        second,
+        entry,
         debug_addr,
         DebugAddrBase(debug_addr_base),
-        walk,
-        encoding,
+        start,
+        unit,
         endian,
     );
-    let w = ffi_words::ranges::converted_words(r);
-    ffi_words::words::write_eight(io, w)
+    ffi_words::ranges::range_converted(r, walk)
 }

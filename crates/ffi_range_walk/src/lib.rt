@@ -1,31 +1,32 @@
 // Walks of range lists.
 use bytes::common::DebugAddrBase;
 use bytes::common::RangeListsOffset;
-use ffi_words::words::Words4;
-use lists::Walk;
+use ffi_words::common::YzDone;
+use ffi_words::common::YzEncoding;
+use ffi_words::ranges::YzRange;
+use ffi_words::walks::WalkWords;
 ghost use mathlib.Core.Path.{_≡_};
-ghost use mathlib.Core.List.{_∷_};
+ghost use mathlib.Core.Bool.{false};
 ghost use Rattle.lists.specs.Open.{opened};
 ghost use Rattle.lists.specs.Walk.{nextRange};
-ghost use Rattle.ffi_words.specs.Words.{endianOf, encodingOf, walkOf};
-ghost use Rattle.ffi_words.specs.ListWords.{opening, rangeNext};
+ghost use Rattle.ffi_words.specs.Common.{endianOf, encodingOf, left};
+ghost use Rattle.ffi_words.specs.Walks.{walkIn, openedWords};
+ghost use Rattle.ffi_words.specs.Ranges.{rangeNext};
 
+// A refused opening leaves the walk as it was.
 #[no_mangle]
 pub extern "C" fn yz_range_open(
     section: &[u8],
+    encoding: YzEncoding,
     offset: u64,
-    address_size: u8,
-    dwarf64: bool,
-    version: u16,
     base_address: u64,
-    out: &mut Words4,
-) -> u64
-    ensures { λ r. ⌜ r ∷ now (out .exit) ≡ opening (opened (encodingOf «address_size» dwarf64 version) (now (section .entry)) offset «base_address») ⌝ }
+    walk: &mut WalkWords,
+) -> YzDone
+    ensures { λ r. ⌜ left r (now (walk .exit)) ≡ openedWords (now (walk .entry)) false (opened (encodingOf encoding) (now (section .entry)) offset «base_address») ⌝ }
 {
-    let encoding = ffi_words::words::encoding_of(address_size, dwarf64, version);
-    let r = lists::rnglists::ranges(section, RangeListsOffset(offset), encoding, base_address);
-    let w = ffi_words::ranges::opened_words(r);
-    ffi_words::words::write_four(out, w)
+    let unit = ffi_words::common::encoding_of(encoding);
+    let r = lists::rnglists::ranges(section, RangeListsOffset(offset), unit, base_address);
+    ffi_words::walks::opened(r, false, walk)
 }
 
 #[no_mangle]
@@ -33,27 +34,21 @@ pub extern "C" fn yz_range_next(
     section: &[u8],
     debug_addr: &[u8],
     debug_addr_base: u64,
-    address_size: u8,
-    dwarf64: bool,
-    version: u16,
-    big_endian: bool,
-    io: &mut Words4,
-) -> u64
-    ensures { λ r. ⌜ r ∷ now (io .exit) ≡ rangeNext (nextRange (encodingOf «address_size» dwarf64 version) (endianOf «big_endian») (now (section .entry)) (now («debug_addr» .entry)) (record { 0 = «debug_addr_base» }) (walkOf (now (io .entry)))) ⌝ }
+    encoding: YzEncoding,
+    walk: &mut WalkWords,
+) -> YzRange
+    ensures { λ r. ⌜ left r (now (walk .exit)) ≡ rangeNext (now (walk .entry)) (nextRange (encodingOf encoding) (endianOf (encoding .«big_endian»)) (now (section .entry)) (now («debug_addr» .entry)) (record { 0 = «debug_addr_base» }) (walkIn (now (walk .entry)))) ⌝ }
 {
-    let at = io[0] as usize;
-    let base_address = io[1];
-    let encoding = ffi_words::words::encoding_of(address_size, dwarf64, version);
-    let endian = ffi_words::words::endian_of(big_endian);
-    let walk = Walk { at, base_address };
+    let start = ffi_words::walks::walk_in(walk);
+    let unit = ffi_words::common::encoding_of(encoding);
+    let endian = ffi_words::common::endian_of(encoding.big_endian);
     let r = lists::rnglists::next(
         section,
         debug_addr,
         DebugAddrBase(debug_addr_base),
-        walk,
-        encoding,
+        start,
+        unit,
         endian,
     );
-    let w = ffi_words::ranges::range_words(r);
-    ffi_words::words::write_four(io, w)
+    ffi_words::ranges::range_next(r, walk)
 }

@@ -1,5 +1,11 @@
 // Location lists, plain and split.
-use super::words::Eight;
+use super::common::DONE;
+use super::common::END;
+use super::common::NOT_THERE;
+use super::common::NOTHING;
+use super::common::YzDone;
+use super::common::YzPart;
+use super::walks::WalkWords;
 use bytes::common::DebugAddrBase;
 use bytes::common::DebugAddrIndex;
 use bytes::common::Encoding;
@@ -7,215 +13,254 @@ use bytes::endianity::RunTimeEndian;
 use bytes::error::Error;
 use entries::Expression;
 use entries::RawLocListEntry;
+use lists::LocationListEntry;
 use lists::Walk;
 use lists::loclists::LocationAnswer;
 use lists::loclists::LocationConverted;
 use lists::loclists::RawLocationAnswer;
 use lookups::LocationFound;
 ghost use mathlib.Core.Path.{_≡_};
+ghost use Rattle.bytes.specs.Read.{gives};
 ghost use Rattle.lists.specs.Walk.{toldNextLocation, toldRawLocation, toldConvertedLocation};
 ghost use Rattle.lookups.specs.Lookup.{toldLocation};
-ghost use Rattle.ffi_words.specs.Words.{eightOf};
-ghost use Rattle.ffi_words.specs.ListWords.{locationNext, locationEntry, rawLocationNext, locationOf, convertLocation, locationOutcome, locationFound};
+ghost use Rattle.ffi_words.specs.Common.{left, noPart};
+ghost use Rattle.ffi_words.specs.Entries.{whole, expressionIn, expressionTold, toldLocationTaken, locationTaken, locationIn, heardLocation, noLocationEntry, rawNext, convertLocation};
+ghost use Rattle.ffi_words.specs.Locations.{locationTold, noLocation, locationNext, locationOutcome, locationFound};
 
-pub fn location_words(r: LocationAnswer) -> Eight
-    ensures { λ w. ⌜ eightOf w ≡ locationNext (toldNextLocation r) ⌝ }
+#[repr(C)]
+pub struct YzLocation {
+    pub done: YzDone,
+    pub begin: u64,
+    pub end: u64,
+    pub expression: YzPart,
+}
+
+// A raw entry: its kind's code, 0 for a bare pair, its numbers, and its expression.
+#[repr(C)]
+pub struct YzLocationEntry {
+    pub kind: u64,
+    pub first: u64,
+    pub second: u64,
+    pub expression: YzPart,
+}
+
+#[repr(C)]
+pub struct YzRawLocation {
+    pub done: YzDone,
+    pub entry: YzLocationEntry,
+}
+
+fn expression_told(x: Expression) -> YzPart
+    ensures { λ r. ⌜ r ≡ expressionTold x ⌝ }
+{
+    YzPart {
+        offset: x.offset as u64,
+        length: x.len as u64,
+    }
+}
+
+fn location_told(location: LocationListEntry) -> YzLocation
+    ensures { λ r. ⌜ r ≡ locationTold (location .range .begin) (location .range .end) (location .«data») ⌝ }
+{
+    let range = location.range;
+    let data = location.data;
+    YzLocation {
+        done: super::common::comes_to(DONE),
+        begin: range.begin,
+        end: range.end,
+        expression: expression_told(data),
+    }
+}
+
+fn no_location(done: YzDone) -> YzLocation
+    ensures { λ r. ⌜ r ≡ noLocation done ⌝ }
+{
+    YzLocation {
+        done,
+        begin: 0,
+        end: 0,
+        expression: super::common::no_part(),
+    }
+}
+
+pub fn location_next(r: LocationAnswer, words: &mut WalkWords) -> YzLocation
+    ensures { λ a. ⌜ left a (now (words .exit)) ≡ locationNext (now (words .entry)) (toldNextLocation r) ⌝ }
 {
     match r {
         LocationAnswer::Location(location, walk) => {
-            let range = location.range;
-            let data = location.data;
-            Eight {
-                code: 0,
-                a: walk.at as u64,
-                b: walk.base_address,
-                c: range.begin,
-                d: range.end,
-                e: data.offset as u64,
-                f: data.len as u64,
-                g: 0,
-                h: 0,
-            }
+            super::walks::hand_back(words, walk);
+            location_told(location)
         }
-        LocationAnswer::End(walk) => super::words::end_eight(walk.at as u64, walk.base_address),
-        LocationAnswer::Refused(e, walk) => super::words::refused_eight(
-            walk.at as u64,
-            walk.base_address,
-            e,
-        ),
+        LocationAnswer::End(walk) => {
+            super::walks::hand_back(words, walk);
+            no_location(super::common::comes_to(END))
+        }
+        LocationAnswer::Refused(e, walk) => {
+            super::walks::hand_back(words, walk);
+            no_location(super::common::refused(e))
+        }
     }
 }
 
-pub fn numbers(at: u64, base: u64, code: u64, first: u64, second: u64) -> Eight
-    ensures { λ w. ⌜ w ≡ record { code = 0; a = at; b = base; c = code; d = first; e = second; f = 0; g = 0; h = 0 } ⌝ }
-{
-    Eight {
-        code: 0,
-        a: at,
-        b: base,
-        c: code,
-        d: first,
-        e: second,
-        f: 0,
-        g: 0,
-        h: 0,
-    }
-}
-
-pub fn numbers_with(at: u64, base: u64, code: u64, first: u64, second: u64, x: Expression) -> Eight
-    ensures { λ w. ⌜ w ≡ record { code = 0; a = at; b = base; c = code; d = first; e = second; f = x .offset; g = x .len; h = 0 } ⌝ }
-{
-    Eight {
-        code: 0,
-        a: at,
-        b: base,
-        c: code,
-        d: first,
-        e: second,
-        f: x.offset as u64,
-        g: x.len as u64,
-        h: 0,
-    }
-}
-
-pub fn entry_words(raw: RawLocListEntry, at: u64, base: u64) -> Eight
-    ensures { λ w. ⌜ eightOf w ≡ locationEntry at base raw ⌝ }
-{
-    match raw {
-        RawLocListEntry::AddressOrOffsetPair(begin, end, x) => numbers_with(
-            at,
-            base,
-            0,
-            begin,
-            end,
-            x,
-        ),
-        RawLocListEntry::BaseAddressx(index) => numbers(at, base, 1, index.0, 0),
-        RawLocListEntry::StartxEndx(begin, end, x) => numbers_with(at, base, 2, begin.0, end.0, x),
-        RawLocListEntry::StartxLength(begin, length, x) => numbers_with(
-            at,
-            base,
-            3,
-            begin.0,
-            length,
-            x,
-        ),
-        RawLocListEntry::OffsetPair(begin, end, x) => numbers_with(at, base, 4, begin, end, x),
-        RawLocListEntry::DefaultLocation(x) => numbers_with(at, base, 5, 0, 0, x),
-        RawLocListEntry::BaseAddress(address) => numbers(at, base, 6, address, 0),
-        RawLocListEntry::StartEnd(begin, end, x) => numbers_with(at, base, 7, begin, end, x),
-        RawLocListEntry::StartLength(begin, length, x) => numbers_with(
-            at,
-            base,
-            8,
-            begin,
-            length,
-            x,
-        ),
-    }
-}
-
-pub fn raw_words(r: RawLocationAnswer) -> Eight
-    ensures { λ w. ⌜ eightOf w ≡ rawLocationNext (toldRawLocation r) ⌝ }
+pub fn location_found(r: LocationFound) -> YzLocation
+    ensures { λ a. ⌜ a ≡ locationFound (toldLocation r) ⌝ }
 {
     match r {
-        RawLocationAnswer::Entry(raw, walk) => entry_words(raw, walk.at as u64, walk.base_address),
-        RawLocationAnswer::End(walk) => super::words::end_eight(walk.at as u64, walk.base_address),
-        RawLocationAnswer::Refused(e, walk) => super::words::refused_eight(
-            walk.at as u64,
-            walk.base_address,
-            e,
-        ),
+        LocationFound::Found(location) => location_told(location),
+        LocationFound::NotThere => no_location(super::common::comes_to(NOT_THERE)),
+        LocationFound::Refused(e) => no_location(super::common::refused(e)),
     }
 }
 
-pub fn entry_of(code: u64, first: u64, second: u64, x: Expression) -> RawLocListEntry
-    ensures { λ r. ⌜ r ≡ locationOf code first second x ⌝ }
+fn numbers(kind: u64, first: u64, second: u64) -> YzLocationEntry
+    ensures { λ r. ⌜ r ≡ record { kind = kind; first = first; second = second; expression = noPart } ⌝ }
 {
-    match code {
-        0 => RawLocListEntry::AddressOrOffsetPair(first, second, x),
-        1 => RawLocListEntry::BaseAddressx(DebugAddrIndex(first)),
-        2 => RawLocListEntry::StartxEndx(DebugAddrIndex(first), DebugAddrIndex(second), x),
-        3 => RawLocListEntry::StartxLength(DebugAddrIndex(first), second, x),
-        4 => RawLocListEntry::OffsetPair(first, second, x),
-        5 => RawLocListEntry::DefaultLocation(x),
-        6 => RawLocListEntry::BaseAddress(first),
-        7 => RawLocListEntry::StartEnd(first, second, x),
-        _ => RawLocListEntry::StartLength(first, second, x),
+    YzLocationEntry {
+        kind,
+        first,
+        second,
+        expression: super::common::no_part(),
     }
 }
 
+fn numbers_with(kind: u64, first: u64, second: u64, x: Expression) -> YzLocationEntry
+    ensures { λ r. ⌜ r ≡ record { kind = kind; first = first; second = second; expression = expressionTold x } ⌝ }
+{
+    YzLocationEntry {
+        kind,
+        first,
+        second,
+        expression: expression_told(x),
+    }
+}
+
+fn entry_out(raw: RawLocListEntry) -> YzLocationEntry
+    ensures { λ r. ⌜ locationIn r ≡ gives (whole raw) ⌝ }
+{
+    match raw {
+        RawLocListEntry::AddressOrOffsetPair(begin, end, x) => numbers_with(0, begin, end, x),
+        RawLocListEntry::BaseAddressx(index) => numbers(1, index.0, 0),
+        RawLocListEntry::StartxEndx(begin, end, x) => numbers_with(2, begin.0, end.0, x),
+        RawLocListEntry::StartxLength(begin, length, x) => numbers_with(3, begin.0, length, x),
+        RawLocListEntry::OffsetPair(begin, end, x) => numbers_with(4, begin, end, x),
+        RawLocListEntry::DefaultLocation(x) => numbers_with(5, 0, 0, x),
+        RawLocListEntry::BaseAddress(address) => numbers(6, address, 0),
+        RawLocListEntry::StartEnd(begin, end, x) => numbers_with(7, begin, end, x),
+        RawLocListEntry::StartLength(begin, length, x) => numbers_with(8, begin, length, x),
+    }
+}
+
+pub fn raw_location(r: RawLocationAnswer, words: &mut WalkWords) -> YzRawLocation
+    ensures { λ a. ⌜ heardLocation a (now (words .exit)) ≡ rawNext (locationIn noLocationEntry) (now (words .entry)) (toldRawLocation r) ⌝ }
+{
+    match r {
+        RawLocationAnswer::Entry(raw, walk) => {
+            super::walks::hand_back(words, walk);
+            YzRawLocation {
+                done: super::common::comes_to(DONE),
+                entry: entry_out(raw),
+            }
+        }
+        RawLocationAnswer::End(walk) => {
+            super::walks::hand_back(words, walk);
+            YzRawLocation {
+                done: super::common::comes_to(END),
+                entry: numbers(0, 0, 0),
+            }
+        }
+        RawLocationAnswer::Refused(e, walk) => {
+            super::walks::hand_back(words, walk);
+            YzRawLocation {
+                done: super::common::refused(e),
+                entry: numbers(0, 0, 0),
+            }
+        }
+    }
+}
+
+// An entry that a caller hands in, or 4 for a code above the kinds.
+pub enum LocationTaken {
+    Entry(RawLocListEntry),
+    Refused(Error),
+}
+
+fn expression_in(part: YzPart) -> Expression
+    ensures { λ r. ⌜ r ≡ expressionIn part ⌝ }
+{
+    Expression {
+        offset: part.offset as usize,
+        len: part.length as usize,
+    }
+}
+
+pub fn entry_in(entry: YzLocationEntry) -> LocationTaken
+    ensures { λ r. ⌜ toldLocationTaken r ≡ locationTaken entry ⌝ }
+{
+    let first = entry.first;
+    let second = entry.second;
+    let part = entry.expression;
+    let x = expression_in(part);
+    match entry.kind {
+        0 => LocationTaken::Entry(RawLocListEntry::AddressOrOffsetPair(first, second, x)),
+        1 => LocationTaken::Entry(RawLocListEntry::BaseAddressx(DebugAddrIndex(first))),
+        2 => LocationTaken::Entry(RawLocListEntry::StartxEndx(
+            DebugAddrIndex(first),
+            DebugAddrIndex(second),
+            x,
+        )),
+        3 => LocationTaken::Entry(RawLocListEntry::StartxLength(DebugAddrIndex(first), second, x)),
+        4 => LocationTaken::Entry(RawLocListEntry::OffsetPair(first, second, x)),
+        5 => LocationTaken::Entry(RawLocListEntry::DefaultLocation(x)),
+        6 => LocationTaken::Entry(RawLocListEntry::BaseAddress(first)),
+        7 => LocationTaken::Entry(RawLocListEntry::StartEnd(first, second, x)),
+        8 => LocationTaken::Entry(RawLocListEntry::StartLength(first, second, x)),
+        _ => LocationTaken::Refused(Error::UnknownLocListsEntry(entry.kind)),
+    }
+}
+
+// 6 with the size before all else, then 4, then the refusals of the address table.
 pub fn convert(
-    code: u64,
-    first: u64,
-    second: u64,
-    x: Expression,
+    entry: YzLocationEntry,
     debug_addr: &[u8],
     debug_addr_base: DebugAddrBase,
     walk: Walk,
     encoding: Encoding,
     endian: RunTimeEndian,
 ) -> LocationConverted
-    ensures { λ r. ⌜ toldConvertedLocation r ≡ convertLocation encoding endian (now («debug_addr» .entry)) «debug_addr_base» walk code first second x ⌝ }
+    ensures { λ r. ⌜ toldConvertedLocation r ≡ convertLocation encoding endian (now («debug_addr» .entry)) «debug_addr_base» walk entry ⌝ }
 {
-    if 8 < code {
-        return LocationConverted::Refused(Error::UnknownLocListsEntry(code), walk);
+    let size = encoding.address_size as u64;
+    if bytes::reader::is_address_size(size) {
+        return match entry_in(entry) {
+            LocationTaken::Entry(raw) => lists::loclists::convert_raw(
+                raw,
+                debug_addr,
+                debug_addr_base,
+                walk,
+                encoding,
+                endian,
+            ),
+            LocationTaken::Refused(e) => LocationConverted::Refused(e, walk),
+        };
     }
-    let raw = entry_of(code, first, second, x);
-    lists::loclists::convert_raw(raw, debug_addr, debug_addr_base, walk, encoding, endian)
+    LocationConverted::Refused(Error::UnsupportedAddressSize(size), walk)
 }
 
-pub fn converted_words(r: LocationConverted) -> Eight
-    ensures { λ w. ⌜ eightOf w ≡ locationOutcome (toldConvertedLocation r) ⌝ }
+pub fn location_converted(r: LocationConverted, words: &mut WalkWords) -> YzLocation
+    ensures { λ a. ⌜ left a (now (words .exit)) ≡ locationOutcome (now (words .entry)) (toldConvertedLocation r) ⌝ }
 {
     match r {
         LocationConverted::Location(location, walk) => {
-            let range = location.range;
-            let data = location.data;
-            Eight {
-                code: 0,
-                a: walk.at as u64,
-                b: walk.base_address,
-                c: range.begin,
-                d: range.end,
-                e: data.offset as u64,
-                f: data.len as u64,
-                g: 0,
-                h: 0,
-            }
+            super::walks::hand_back(words, walk);
+            location_told(location)
         }
-        LocationConverted::Nothing(walk) => super::words::end_eight(
-            walk.at as u64,
-            walk.base_address,
-        ),
-        LocationConverted::Refused(e, walk) => super::words::refused_eight(
-            walk.at as u64,
-            walk.base_address,
-            e,
-        ),
-    }
-}
-
-pub fn found_words(r: LocationFound) -> Eight
-    ensures { λ w. ⌜ eightOf w ≡ locationFound (toldLocation r) ⌝ }
-{
-    match r {
-        LocationFound::Found(location) => {
-            let range = location.range;
-            let data = location.data;
-            Eight {
-                code: 0,
-                a: 0,
-                b: 0,
-                c: range.begin,
-                d: range.end,
-                e: data.offset as u64,
-                f: data.len as u64,
-                g: 0,
-                h: 0,
-            }
+        LocationConverted::Nothing(walk) => {
+            super::walks::hand_back(words, walk);
+            no_location(super::common::comes_to(NOTHING))
         }
-        LocationFound::NotThere => super::words::end_eight(0, 0),
-        LocationFound::Refused(e) => super::words::refused_eight(0, 0, e),
+        LocationConverted::Refused(e, walk) => {
+            super::walks::hand_back(words, walk);
+            no_location(super::common::refused(e))
+        }
     }
 }

@@ -1,175 +1,223 @@
 // Range lists.
-use super::words::Eight;
-use super::words::Four;
+use super::common::DONE;
+use super::common::END;
+use super::common::NOT_THERE;
+use super::common::NOTHING;
+use super::common::YzDone;
+use super::walks::WalkWords;
 use bytes::common::DebugAddrBase;
 use bytes::common::DebugAddrIndex;
 use bytes::common::Encoding;
 use bytes::endianity::RunTimeEndian;
 use bytes::error::Error;
 use entries::RawRngListEntry;
-use lists::Opened;
+use lists::Range;
 use lists::Walk;
 use lists::rnglists::RangeAnswer;
 use lists::rnglists::RangeConverted;
 use lists::rnglists::RawRangeAnswer;
 use lookups::RangeFound;
 ghost use mathlib.Core.Path.{_≡_};
-ghost use Rattle.lists.specs.Open.{toldOpened};
+ghost use Rattle.bytes.specs.Read.{gives};
 ghost use Rattle.lists.specs.Walk.{toldNextRange, toldRawRange, toldConvertedRange};
 ghost use Rattle.lookups.specs.Lookup.{toldRange};
-ghost use Rattle.ffi_words.specs.Words.{fourOf, eightOf};
-ghost use Rattle.ffi_words.specs.ListWords.{opening, rangeNext, rangeEntry, rawRangeNext, rangeOf, convertRange, rangeOutcome, rangeFound};
+ghost use Rattle.ffi_words.specs.Common.{left};
+ghost use Rattle.ffi_words.specs.Entries.{whole, toldRangeTaken, rangeTaken, rangeIn, heardRange, noRangeEntry, rawNext, convertRange};
+ghost use Rattle.ffi_words.specs.Ranges.{rangeTold, noRange, rangeNext, rangeOutcome, rangeFound};
 
-pub fn opened_words(r: Opened) -> Four
-    ensures { λ w. ⌜ fourOf w ≡ opening (toldOpened r) ⌝ }
+#[repr(C)]
+pub struct YzRange {
+    pub done: YzDone,
+    pub begin: u64,
+    pub end: u64,
+}
+
+// A raw entry: its kind's code, 0 for a bare pair, and its numbers.
+#[repr(C)]
+pub struct YzRangeEntry {
+    pub kind: u64,
+    pub first: u64,
+    pub second: u64,
+}
+
+#[repr(C)]
+pub struct YzRawRange {
+    pub done: YzDone,
+    pub entry: YzRangeEntry,
+}
+
+fn range_told(range: Range) -> YzRange
+    ensures { λ r. ⌜ r ≡ rangeTold (range .begin) (range .end) ⌝ }
+{
+    YzRange {
+        done: super::common::comes_to(DONE),
+        begin: range.begin,
+        end: range.end,
+    }
+}
+
+fn no_range(done: YzDone) -> YzRange
+    ensures { λ r. ⌜ r ≡ noRange done ⌝ }
+{
+    YzRange {
+        done,
+        begin: 0,
+        end: 0,
+    }
+}
+
+pub fn range_next(r: RangeAnswer, words: &mut WalkWords) -> YzRange
+    ensures { λ a. ⌜ left a (now (words .exit)) ≡ rangeNext (now (words .entry)) (toldNextRange r) ⌝ }
 {
     match r {
-        Opened::List(walk) => Four {
-            code: 0,
-            a: walk.at as u64,
-            b: walk.base_address,
-            c: 0,
-            d: 0,
-        },
-        Opened::Refused(e) => super::words::refused_four(0, 0, e),
+        RangeAnswer::Range(range, walk) => {
+            super::walks::hand_back(words, walk);
+            range_told(range)
+        }
+        RangeAnswer::End(walk) => {
+            super::walks::hand_back(words, walk);
+            no_range(super::common::comes_to(END))
+        }
+        RangeAnswer::Refused(e, walk) => {
+            super::walks::hand_back(words, walk);
+            no_range(super::common::refused(e))
+        }
     }
 }
 
-pub fn range_words(r: RangeAnswer) -> Four
-    ensures { λ w. ⌜ fourOf w ≡ rangeNext (toldNextRange r) ⌝ }
+pub fn range_found(r: RangeFound) -> YzRange
+    ensures { λ a. ⌜ a ≡ rangeFound (toldRange r) ⌝ }
 {
     match r {
-        RangeAnswer::Range(range, walk) => Four {
-            code: 0,
-            a: walk.at as u64,
-            b: walk.base_address,
-            c: range.begin,
-            d: range.end,
-        },
-        RangeAnswer::End(walk) => super::words::end_four(walk.at as u64, walk.base_address),
-        RangeAnswer::Refused(e, walk) => super::words::refused_four(
-            walk.at as u64,
-            walk.base_address,
-            e,
-        ),
+        RangeFound::Found(range) => range_told(range),
+        RangeFound::NotThere => no_range(super::common::comes_to(NOT_THERE)),
+        RangeFound::Refused(e) => no_range(super::common::refused(e)),
     }
 }
 
-pub fn numbers(at: u64, base: u64, code: u64, first: u64, second: u64) -> Eight
-    ensures { λ w. ⌜ w ≡ record { code = 0; a = at; b = base; c = code; d = first; e = second; f = 0; g = 0; h = 0 } ⌝ }
+fn numbers(kind: u64, first: u64, second: u64) -> YzRangeEntry
+    ensures { λ r. ⌜ r ≡ record { kind = kind; first = first; second = second } ⌝ }
 {
-    Eight {
-        code: 0,
-        a: at,
-        b: base,
-        c: code,
-        d: first,
-        e: second,
-        f: 0,
-        g: 0,
-        h: 0,
+    YzRangeEntry {
+        kind,
+        first,
+        second,
     }
 }
 
-pub fn entry_words(raw: RawRngListEntry, at: u64, base: u64) -> Eight
-    ensures { λ w. ⌜ eightOf w ≡ rangeEntry at base raw ⌝ }
+fn entry_out(raw: RawRngListEntry) -> YzRangeEntry
+    ensures { λ r. ⌜ rangeIn r ≡ gives (whole raw) ⌝ }
 {
     match raw {
-        RawRngListEntry::AddressOrOffsetPair(begin, end) => numbers(at, base, 0, begin, end),
-        RawRngListEntry::BaseAddressx(index) => numbers(at, base, 1, index.0, 0),
-        RawRngListEntry::StartxEndx(begin, end) => numbers(at, base, 2, begin.0, end.0),
-        RawRngListEntry::StartxLength(begin, length) => numbers(at, base, 3, begin.0, length),
-        RawRngListEntry::OffsetPair(begin, end) => numbers(at, base, 4, begin, end),
-        RawRngListEntry::BaseAddress(address) => numbers(at, base, 5, address, 0),
-        RawRngListEntry::StartEnd(begin, end) => numbers(at, base, 6, begin, end),
-        RawRngListEntry::StartLength(begin, length) => numbers(at, base, 7, begin, length),
+        RawRngListEntry::AddressOrOffsetPair(begin, end) => numbers(0, begin, end),
+        RawRngListEntry::BaseAddressx(index) => numbers(1, index.0, 0),
+        RawRngListEntry::StartxEndx(begin, end) => numbers(2, begin.0, end.0),
+        RawRngListEntry::StartxLength(begin, length) => numbers(3, begin.0, length),
+        RawRngListEntry::OffsetPair(begin, end) => numbers(4, begin, end),
+        RawRngListEntry::BaseAddress(address) => numbers(5, address, 0),
+        RawRngListEntry::StartEnd(begin, end) => numbers(6, begin, end),
+        RawRngListEntry::StartLength(begin, length) => numbers(7, begin, length),
     }
 }
 
-pub fn raw_words(r: RawRangeAnswer) -> Eight
-    ensures { λ w. ⌜ eightOf w ≡ rawRangeNext (toldRawRange r) ⌝ }
+pub fn raw_range(r: RawRangeAnswer, words: &mut WalkWords) -> YzRawRange
+    ensures { λ a. ⌜ heardRange a (now (words .exit)) ≡ rawNext (rangeIn noRangeEntry) (now (words .entry)) (toldRawRange r) ⌝ }
 {
     match r {
-        RawRangeAnswer::Entry(raw, walk) => entry_words(raw, walk.at as u64, walk.base_address),
-        RawRangeAnswer::End(walk) => super::words::end_eight(walk.at as u64, walk.base_address),
-        RawRangeAnswer::Refused(e, walk) => super::words::refused_eight(
-            walk.at as u64,
-            walk.base_address,
-            e,
-        ),
+        RawRangeAnswer::Entry(raw, walk) => {
+            super::walks::hand_back(words, walk);
+            YzRawRange {
+                done: super::common::comes_to(DONE),
+                entry: entry_out(raw),
+            }
+        }
+        RawRangeAnswer::End(walk) => {
+            super::walks::hand_back(words, walk);
+            YzRawRange {
+                done: super::common::comes_to(END),
+                entry: numbers(0, 0, 0),
+            }
+        }
+        RawRangeAnswer::Refused(e, walk) => {
+            super::walks::hand_back(words, walk);
+            YzRawRange {
+                done: super::common::refused(e),
+                entry: numbers(0, 0, 0),
+            }
+        }
     }
 }
 
-pub fn entry_of(code: u64, first: u64, second: u64) -> RawRngListEntry
-    ensures { λ r. ⌜ r ≡ rangeOf code first second ⌝ }
+// An entry that a caller hands in, or 3 for a code above the kinds.
+pub enum RangeTaken {
+    Entry(RawRngListEntry),
+    Refused(Error),
+}
+
+pub fn entry_in(entry: YzRangeEntry) -> RangeTaken
+    ensures { λ r. ⌜ toldRangeTaken r ≡ rangeTaken entry ⌝ }
 {
-    match code {
-        0 => RawRngListEntry::AddressOrOffsetPair(first, second),
-        1 => RawRngListEntry::BaseAddressx(DebugAddrIndex(first)),
-        2 => RawRngListEntry::StartxEndx(DebugAddrIndex(first), DebugAddrIndex(second)),
-        3 => RawRngListEntry::StartxLength(DebugAddrIndex(first), second),
-        4 => RawRngListEntry::OffsetPair(first, second),
-        5 => RawRngListEntry::BaseAddress(first),
-        6 => RawRngListEntry::StartEnd(first, second),
-        _ => RawRngListEntry::StartLength(first, second),
+    let first = entry.first;
+    let second = entry.second;
+    match entry.kind {
+        0 => RangeTaken::Entry(RawRngListEntry::AddressOrOffsetPair(first, second)),
+        1 => RangeTaken::Entry(RawRngListEntry::BaseAddressx(DebugAddrIndex(first))),
+        2 => RangeTaken::Entry(RawRngListEntry::StartxEndx(
+            DebugAddrIndex(first),
+            DebugAddrIndex(second),
+        )),
+        3 => RangeTaken::Entry(RawRngListEntry::StartxLength(DebugAddrIndex(first), second)),
+        4 => RangeTaken::Entry(RawRngListEntry::OffsetPair(first, second)),
+        5 => RangeTaken::Entry(RawRngListEntry::BaseAddress(first)),
+        6 => RangeTaken::Entry(RawRngListEntry::StartEnd(first, second)),
+        7 => RangeTaken::Entry(RawRngListEntry::StartLength(first, second)),
+        _ => RangeTaken::Refused(Error::UnknownRangeListsEntry(entry.kind)),
     }
 }
 
+// 6 with the size before all else, then 3, then the refusals of the address table.
 pub fn convert(
-    code: u64,
-    first: u64,
-    second: u64,
+    entry: YzRangeEntry,
     debug_addr: &[u8],
     debug_addr_base: DebugAddrBase,
     walk: Walk,
     encoding: Encoding,
     endian: RunTimeEndian,
 ) -> RangeConverted
-    ensures { λ r. ⌜ toldConvertedRange r ≡ convertRange encoding endian (now («debug_addr» .entry)) «debug_addr_base» walk code first second ⌝ }
+    ensures { λ r. ⌜ toldConvertedRange r ≡ convertRange encoding endian (now («debug_addr» .entry)) «debug_addr_base» walk entry ⌝ }
 {
-    if 7 < code {
-        return RangeConverted::Refused(Error::UnknownRangeListsEntry(code), walk);
+    let size = encoding.address_size as u64;
+    if bytes::reader::is_address_size(size) {
+        return match entry_in(entry) {
+            RangeTaken::Entry(raw) => lists::rnglists::convert_raw(
+                raw,
+                debug_addr,
+                debug_addr_base,
+                walk,
+                encoding,
+                endian,
+            ),
+            RangeTaken::Refused(e) => RangeConverted::Refused(e, walk),
+        };
     }
-    let raw = entry_of(code, first, second);
-    lists::rnglists::convert_raw(raw, debug_addr, debug_addr_base, walk, encoding, endian)
+    RangeConverted::Refused(Error::UnsupportedAddressSize(size), walk)
 }
 
-pub fn converted_words(r: RangeConverted) -> Eight
-    ensures { λ w. ⌜ eightOf w ≡ rangeOutcome (toldConvertedRange r) ⌝ }
+pub fn range_converted(r: RangeConverted, words: &mut WalkWords) -> YzRange
+    ensures { λ a. ⌜ left a (now (words .exit)) ≡ rangeOutcome (now (words .entry)) (toldConvertedRange r) ⌝ }
 {
     match r {
-        RangeConverted::Range(range, walk) => Eight {
-            code: 0,
-            a: walk.at as u64,
-            b: walk.base_address,
-            c: range.begin,
-            d: range.end,
-            e: 0,
-            f: 0,
-            g: 0,
-            h: 0,
-        },
-        RangeConverted::Nothing(walk) => super::words::end_eight(walk.at as u64, walk.base_address),
-        RangeConverted::Refused(e, walk) => super::words::refused_eight(
-            walk.at as u64,
-            walk.base_address,
-            e,
-        ),
-    }
-}
-
-pub fn found_words(r: RangeFound) -> Four
-    ensures { λ w. ⌜ fourOf w ≡ rangeFound (toldRange r) ⌝ }
-{
-    match r {
-        RangeFound::Found(range) => Four {
-            code: 0,
-            a: 0,
-            b: 0,
-            c: range.begin,
-            d: range.end,
-        },
-        RangeFound::NotThere => super::words::end_four(0, 0),
-        RangeFound::Refused(e) => super::words::refused_four(0, 0, e),
+        RangeConverted::Range(range, walk) => {
+            super::walks::hand_back(words, walk);
+            range_told(range)
+        }
+        RangeConverted::Nothing(walk) => {
+            super::walks::hand_back(words, walk);
+            no_range(super::common::comes_to(NOTHING))
+        }
+        RangeConverted::Refused(e, walk) => {
+            super::walks::hand_back(words, walk);
+            no_range(super::common::refused(e))
+        }
     }
 }

@@ -1,72 +1,149 @@
 // Numbers read at a place of a section.
-use super::words::Four;
+use super::common::DONE;
+use super::common::YzDone;
+use super::common::YzPart;
 use bytes::InitialLength;
 use bytes::Num;
 use bytes::Place;
 use bytes::Split;
 ghost use mathlib.Core.Path.{_≡_};
 ghost use Rattle.bytes.specs.Error.{told, toldPlace, toldSplit, toldLength};
-ghost use Rattle.ffi_words.specs.Words.{fourOf, numberRead, placeRead, spanRead, lengthRead};
+ghost use Rattle.ffi_words.specs.Reads.{numberTold, noNumber, numberRead, numberOnly, placeRead, partRead, lengthRead};
 
-pub fn number_words(r: Num) -> Four
-    ensures { λ w. ⌜ fourOf w ≡ numberRead (told r) ⌝ }
+// A number.
+#[repr(C)]
+pub struct YzNumber {
+    pub done: YzDone,
+    pub number: u64,
+}
+
+// The place after what was read, and the number there.
+#[repr(C)]
+pub struct YzRead {
+    pub done: YzDone,
+    pub next: u64,
+    pub number: u64,
+}
+
+// The place after what was passed over.
+#[repr(C)]
+pub struct YzPlace {
+    pub done: YzDone,
+    pub next: u64,
+}
+
+// The place after a part, and the part.
+#[repr(C)]
+pub struct YzSplitPart {
+    pub done: YzDone,
+    pub next: u64,
+    pub part: YzPart,
+}
+
+// The place after an initial length, the length, and 1 for 64-bit DWARF.
+#[repr(C)]
+pub struct YzUnitLength {
+    pub done: YzDone,
+    pub next: u64,
+    pub length: u64,
+    pub dwarf64: u64,
+}
+
+pub fn number(number: u64) -> YzNumber
+    ensures { λ r. ⌜ r ≡ numberTold number ⌝ }
 {
-    match r {
-        Num::Got(v, c) => Four {
-            code: 0,
-            a: c as u64,
-            b: 0,
-            c: v,
-            d: 0,
-        },
-        Num::Refused(e) => super::words::refused_four(0, 0, e),
+    YzNumber {
+        done: super::common::comes_to(DONE),
+        number,
     }
 }
 
-pub fn place_words(r: Place) -> Four
-    ensures { λ w. ⌜ fourOf w ≡ placeRead (toldPlace r) ⌝ }
+pub fn no_number(done: YzDone) -> YzNumber
+    ensures { λ r. ⌜ r ≡ noNumber done ⌝ }
+{
+    YzNumber { done, number: 0 }
+}
+
+pub fn read_number(r: Num) -> YzRead
+    ensures { λ w. ⌜ w ≡ numberRead (told r) ⌝ }
 {
     match r {
-        Place::At(c) => Four {
-            code: 0,
-            a: c as u64,
-            b: 0,
-            c: 0,
-            d: 0,
+        Num::Got(number, c) => YzRead {
+            done: super::common::comes_to(DONE),
+            next: c as u64,
+            number,
         },
-        Place::Refused(e) => super::words::refused_four(0, 0, e),
+        Num::Refused(e) => YzRead {
+            done: super::common::refused(e),
+            next: 0,
+            number: 0,
+        },
     }
 }
 
-pub fn span_words(r: Split) -> Four
-    ensures { λ w. ⌜ fourOf w ≡ spanRead (toldSplit r) ⌝ }
+// The number without the place.
+pub fn number_only(r: Num) -> YzNumber
+    ensures { λ w. ⌜ w ≡ numberOnly (told r) ⌝ }
 {
     match r {
-        Split::Got(span, c) => Four {
-            code: 0,
-            a: c as u64,
-            b: 0,
-            c: span.offset as u64,
-            d: span.len as u64,
-        },
-        Split::Refused(e) => super::words::refused_four(0, 0, e),
+        Num::Got(v, _) => number(v),
+        Num::Refused(e) => no_number(super::common::refused(e)),
     }
 }
 
-pub fn length_words(r: InitialLength) -> Four
-    ensures { λ w. ⌜ fourOf w ≡ lengthRead (toldLength r) ⌝ }
+pub fn read_place(r: Place) -> YzPlace
+    ensures { λ w. ⌜ w ≡ placeRead (toldPlace r) ⌝ }
+{
+    match r {
+        Place::At(c) => YzPlace {
+            done: super::common::comes_to(DONE),
+            next: c as u64,
+        },
+        Place::Refused(e) => YzPlace {
+            done: super::common::refused(e),
+            next: 0,
+        },
+    }
+}
+
+pub fn read_part(r: Split) -> YzSplitPart
+    ensures { λ w. ⌜ w ≡ partRead (toldSplit r) ⌝ }
+{
+    match r {
+        Split::Got(span, c) => YzSplitPart {
+            done: super::common::comes_to(DONE),
+            next: c as u64,
+            part: YzPart {
+                offset: span.offset as u64,
+                length: span.len as u64,
+            },
+        },
+        Split::Refused(e) => YzSplitPart {
+            done: super::common::refused(e),
+            next: 0,
+            part: super::common::no_part(),
+        },
+    }
+}
+
+pub fn read_length(r: InitialLength) -> YzUnitLength
+    ensures { λ w. ⌜ w ≡ lengthRead (toldLength r) ⌝ }
 {
     match r {
         InitialLength::Got(length, c) => {
             let format = length.format;
-            Four {
-                code: 0,
-                a: c as u64,
-                b: 0,
-                c: length.length,
-                d: super::words::dwarf64_of(format),
+            YzUnitLength {
+                done: super::common::comes_to(DONE),
+                next: c as u64,
+                length: length.length,
+                dwarf64: super::common::is_dwarf64(format) as u64,
             }
         }
-        InitialLength::Refused(e) => super::words::refused_four(0, 0, e),
+        InitialLength::Refused(e) => YzUnitLength {
+            done: super::common::refused(e),
+            next: 0,
+            length: 0,
+            dwarf64: 0,
+        },
     }
 }
