@@ -17,7 +17,7 @@ ghost use mathlib.Core.Path.{_≡_};
 ghost use Rattle.tables.specs.Addr.{addressAt, nextHeader, nextEntry};
 ghost use Rattle.tables.specs.Lists.{listsHeader, defaultBase};
 ghost use Rattle.tables.specs.Row.{rangeOffset, locationOffset};
-ghost use Rattle.ffi_words.specs.Common.{endianOf, formatOf, encodingOf, isSet, fileOf, left};
+ghost use Rattle.ffi_words.specs.Common.{endianOf, endianIn, formatOf, encodingOf, isSet, fileOf, left};
 ghost use Rattle.ffi_words.specs.Reads.{numberResult};
 ghost use Rattle.ffi_words.specs.Headers.{listsTold, headersIn, tableNext, entriesIn, entryNext};
 
@@ -28,9 +28,9 @@ pub extern "C" fn yz_get_address(
     encoding: YzEncoding,
     index: u64,
 ) -> YzNumber
-    ensures { λ r. ⌜ r ≡ numberResult (addressAt (endianOf (encoding .«big_endian»)) (encoding .«address_size») (record { 0 = «debug_addr_base» }) (record { 0 = index }) (now («debug_addr» .entry))) ⌝ }
+    ensures { λ r. ⌜ r ≡ numberResult (addressAt (endianIn encoding) (encoding .«address_size») (record { 0 = «debug_addr_base» }) (record { 0 = index }) (now («debug_addr» .entry))) ⌝ }
 {
-    let endian = ffi_words::common::endian_of(encoding.big_endian);
+    let endian = ffi_words::common::endian_in(encoding);
     let r = tables::addr::get_address(
         debug_addr,
         encoding.address_size,
@@ -61,11 +61,11 @@ pub extern "C" fn yz_table_entry_next(
     encoding: YzEncoding,
     entries: &mut EntriesWords,
 ) -> YzNumber
-    ensures { λ r. ⌜ left r (now (entries .exit)) ≡ entryNext (nextEntry (endianOf (encoding .«big_endian»)) (now («debug_addr» .entry)) (entriesIn (encodingOf encoding) (now (entries .entry)))) ⌝ }
+    ensures { λ r. ⌜ left r (now (entries .exit)) ≡ entryNext (nextEntry (endianIn encoding) (now («debug_addr» .entry)) (entriesIn (encodingOf encoding) (now (entries .entry)))) ⌝ }
 {
     let unit = ffi_words::common::encoding_of(encoding);
     let start = ffi_words::headers::entries_in(entries, unit);
-    let endian = ffi_words::common::endian_of(encoding.big_endian);
+    let endian = ffi_words::common::endian_in(encoding);
     let r = start.next(debug_addr, endian);
     ffi_words::headers::entry_next(r, entries)
 }
@@ -86,10 +86,10 @@ pub extern "C" fn yz_range_get_offset(
     base: u64,
     index: u64,
 ) -> YzNumber
-    ensures { λ r. ⌜ r ≡ numberResult (rangeOffset (endianOf (encoding .«big_endian»)) (formatOf (encoding .dwarf64)) (record { 0 = base }) (record { 0 = index }) (now («debug_rnglists» .entry))) ⌝ }
+    ensures { λ r. ⌜ r ≡ numberResult (rangeOffset (endianIn encoding) (formatOf (encoding .dwarf64)) (record { 0 = base }) (record { 0 = index }) (now («debug_rnglists» .entry))) ⌝ }
 {
     let unit = ffi_words::common::encoding_of(encoding);
-    let endian = ffi_words::common::endian_of(encoding.big_endian);
+    let endian = ffi_words::common::endian_in(encoding);
     let r = tables::rnglists::get_offset(
         debug_rnglists,
         unit,
@@ -119,10 +119,10 @@ pub extern "C" fn yz_location_get_offset(
     base: u64,
     index: u64,
 ) -> YzNumber
-    ensures { λ r. ⌜ r ≡ numberResult (locationOffset (endianOf (encoding .«big_endian»)) (formatOf (encoding .dwarf64)) (record { 0 = base }) (record { 0 = index }) (now («debug_loclists» .entry))) ⌝ }
+    ensures { λ r. ⌜ r ≡ numberResult (locationOffset (endianIn encoding) (formatOf (encoding .dwarf64)) (record { 0 = base }) (record { 0 = index }) (now («debug_loclists» .entry))) ⌝ }
 {
     let unit = ffi_words::common::encoding_of(encoding);
-    let endian = ffi_words::common::endian_of(encoding.big_endian);
+    let endian = ffi_words::common::endian_in(encoding);
     let r = tables::loclists::get_offset(
         debug_loclists,
         unit,

@@ -10,7 +10,7 @@ ghost use Rattle.bytes.specs.Address.{addSized, ones, minTombstone};
 ghost use Rattle.bytes.specs.Leb128.{unsigned as unsignedAt};
 ghost use Rattle.bytes.specs.Reader.{skip as skipped, split as splitOff, truncate as cut, uint, address, addressSize, word, initialLength};
 ghost use Rattle.bytes.specs.declared.endianity.RunTimeEndian.the-variants.{Little};
-ghost use Rattle.ffi_words.specs.Common.{endianOf, formatOf};
+ghost use Rattle.ffi_words.specs.Common.{endianOf, endianIn, formatOf};
 ghost use Rattle.ffi_words.specs.Reads.{numberRead, numberOnly, placeRead, partRead, lengthRead};
 
 #[no_mangle]
@@ -58,9 +58,9 @@ pub extern "C" fn yz_read_u64(section: &[u8], big_endian: bool, at: usize) -> Yz
 
 #[no_mangle]
 pub extern "C" fn yz_read_address(section: &[u8], encoding: YzEncoding, at: usize) -> YzRead
-    ensures { λ r. ⌜ r ≡ numberRead (address (endianOf (encoding .«big_endian»)) (encoding .«address_size») (now (section .entry)) at) ⌝ }
+    ensures { λ r. ⌜ r ≡ numberRead (address (endianIn encoding) (encoding .«address_size») (now (section .entry)) at) ⌝ }
 {
-    let endian = ffi_words::common::endian_of(encoding.big_endian);
+    let endian = ffi_words::common::endian_in(encoding);
     let r = bytes::reader::read_address(section, at, encoding.address_size, endian);
     ffi_words::reads::read_number(r)
 }
@@ -75,10 +75,10 @@ pub extern "C" fn yz_read_address_size(section: &[u8], at: usize) -> YzRead
 
 #[no_mangle]
 pub extern "C" fn yz_read_offset(section: &[u8], encoding: YzEncoding, at: usize) -> YzRead
-    ensures { λ r. ⌜ r ≡ numberRead (word (endianOf (encoding .«big_endian»)) (formatOf (encoding .dwarf64)) (now (section .entry)) at) ⌝ }
+    ensures { λ r. ⌜ r ≡ numberRead (word (endianIn encoding) (formatOf (encoding .dwarf64)) (now (section .entry)) at) ⌝ }
 {
     let format = ffi_words::common::format_of(encoding.dwarf64);
-    let endian = ffi_words::common::endian_of(encoding.big_endian);
+    let endian = ffi_words::common::endian_in(encoding);
     let r = bytes::reader::read_offset(section, at, format, endian);
     ffi_words::reads::read_number(r)
 }

@@ -9,7 +9,7 @@ ghost use Rattle.coverage.specs.Covered.{locationList, source, coverageOf};
 ghost use Rattle.canonical.specs.Canonical.{canonicalOf};
 ghost use Rattle.coverage.specs.Output.{written};
 ghost use Rattle.coverage.specs.Told.{made};
-ghost use Rattle.ffi_words.specs.Common.{endianOf, encodingOf, isSet, left};
+ghost use Rattle.ffi_words.specs.Common.{endianIn, encodingOf, isSet, left};
 ghost use Rattle.ffi_words.specs.Coverages.{handed, handsOut, outputLeft};
 
 // The refusals of opening, then the first of a walk's refusal and 10.
@@ -25,10 +25,10 @@ pub extern "C" fn yz_location_coverage(
     begins: &mut Places,
     ends: &mut Places,
 ) -> YzCount
-    ensures { λ r. ⌜ handed r (now (begins .exit)) (now (ends .exit)) ≡ handsOut (made (coverageOf (source (locationList (isSet «file_type»)) (encodingOf encoding) (endianOf (encoding .«big_endian»)) (now (section .entry)) offset «base_address» (now («debug_addr» .entry)) (record { 0 = «debug_addr_base» })))) (now (begins .entry)) (now (ends .entry)) ⌝ }
+    ensures { λ r. ⌜ handed r (now (begins .exit)) (now (ends .exit)) ≡ handsOut (made (coverageOf (source (locationList (isSet «file_type»)) (encodingOf encoding) (endianIn encoding) (now (section .entry)) offset «base_address» (now («debug_addr» .entry)) (record { 0 = «debug_addr_base» })))) (now (begins .entry)) (now (ends .entry)) ⌝ }
 {
     let unit = ffi_words::common::encoding_of(encoding);
-    let endian = ffi_words::common::endian_of(encoding.big_endian);
+    let endian = ffi_words::common::endian_in(encoding);
     let split = ffi_words::common::is_set(file_type as u64);
     let made = coverage::collect::location_coverage(
         section,
@@ -55,10 +55,10 @@ pub extern "C" fn yz_location_canonical(
     base_address: u64,
     output: &mut [u8],
 ) -> YzCount
-    ensures { λ r. ⌜ left r (now (output .exit)) ≡ outputLeft (written (canonicalOf (source (locationList (isSet «file_type»)) (encodingOf encoding) (endianOf (encoding .«big_endian»)) (now (section .entry)) offset «base_address» (now («debug_addr» .entry)) (record { 0 = «debug_addr_base» }))) (now (output .entry))) ⌝ }
+    ensures { λ r. ⌜ left r (now (output .exit)) ≡ outputLeft (written (canonicalOf (source (locationList (isSet «file_type»)) (encodingOf encoding) (endianIn encoding) (now (section .entry)) offset «base_address» (now («debug_addr» .entry)) (record { 0 = «debug_addr_base» }))) (now (output .entry))) ⌝ }
 {
     let unit = ffi_words::common::encoding_of(encoding);
-    let endian = ffi_words::common::endian_of(encoding.big_endian);
+    let endian = ffi_words::common::endian_in(encoding);
     let split = ffi_words::common::is_set(file_type as u64);
     let r = canonical::of_list::canonical_locations(
         section,

@@ -7,7 +7,7 @@ use ffi_words::locations::YzRawLocation;
 use ffi_words::walks::WalkWords;
 ghost use mathlib.Core.Path.{_≡_};
 ghost use Rattle.lists.specs.Walk.{nextRawLocation};
-ghost use Rattle.ffi_words.specs.Common.{endianOf, encodingOf, left};
+ghost use Rattle.ffi_words.specs.Common.{endianIn, encodingOf, left};
 ghost use Rattle.ffi_words.specs.Walks.{walkIn, splitIn};
 ghost use Rattle.ffi_words.specs.Entries.{locationIn, noLocationEntry, heardLocation, rawNext, convertLocation};
 ghost use Rattle.ffi_words.specs.Locations.{locationOutcome};
@@ -19,12 +19,12 @@ pub extern "C" fn yz_location_next_raw(
     encoding: YzEncoding,
     walk: &mut WalkWords,
 ) -> YzRawLocation
-    ensures { λ r. ⌜ heardLocation r (now (walk .exit)) ≡ rawNext (locationIn noLocationEntry) (now (walk .entry)) (nextRawLocation (splitIn (now (walk .entry))) (encodingOf encoding) (endianOf (encoding .«big_endian»)) (now (section .entry)) (walkIn (now (walk .entry)))) ⌝ }
+    ensures { λ r. ⌜ heardLocation r (now (walk .exit)) ≡ rawNext (locationIn noLocationEntry) (now (walk .entry)) (nextRawLocation (splitIn (now (walk .entry))) (encodingOf encoding) (endianIn encoding) (now (section .entry)) (walkIn (now (walk .entry)))) ⌝ }
 {
     let start = ffi_words::walks::walk_in(walk);
     let split = ffi_words::walks::split_in(walk);
     let unit = ffi_words::common::encoding_of(encoding);
-    let endian = ffi_words::common::endian_of(encoding.big_endian);
+    let endian = ffi_words::common::endian_in(encoding);
     let r = lists::loclists::next_raw(section, start, unit, endian, split);
     ffi_words::locations::raw_location(r, walk)
 }
@@ -38,11 +38,11 @@ pub extern "C" fn yz_location_convert_raw(
     entry: YzLocationEntry,
     walk: &mut WalkWords,
 ) -> YzLocation
-    ensures { λ r. ⌜ left r (now (walk .exit)) ≡ locationOutcome (now (walk .entry)) (convertLocation (encodingOf encoding) (endianOf (encoding .«big_endian»)) (now («debug_addr» .entry)) (record { 0 = «debug_addr_base» }) (walkIn (now (walk .entry))) entry) ⌝ }
+    ensures { λ r. ⌜ left r (now (walk .exit)) ≡ locationOutcome (now (walk .entry)) (convertLocation (encodingOf encoding) (endianIn encoding) (now («debug_addr» .entry)) (record { 0 = «debug_addr_base» }) (walkIn (now (walk .entry))) entry) ⌝ }
 {
     let start = ffi_words::walks::walk_in(walk);
     let unit = ffi_words::common::encoding_of(encoding);
-    let endian = ffi_words::common::endian_of(encoding.big_endian);
+    let endian = ffi_words::common::endian_in(encoding);
     let r = ffi_words::locations::convert(
         entry,
         debug_addr,

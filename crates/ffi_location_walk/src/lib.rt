@@ -8,7 +8,7 @@ use ffi_words::walks::WalkWords;
 ghost use mathlib.Core.Path.{_≡_};
 ghost use Rattle.lists.specs.Open.{opened};
 ghost use Rattle.lists.specs.Walk.{nextLocation};
-ghost use Rattle.ffi_words.specs.Common.{endianOf, encodingOf, isSet, left};
+ghost use Rattle.ffi_words.specs.Common.{endianIn, encodingOf, isSet, left};
 ghost use Rattle.ffi_words.specs.Walks.{walkIn, splitIn, openedWords};
 ghost use Rattle.ffi_words.specs.Locations.{locationNext};
 
@@ -38,12 +38,12 @@ pub extern "C" fn yz_location_next(
     encoding: YzEncoding,
     walk: &mut WalkWords,
 ) -> YzLocation
-    ensures { λ r. ⌜ left r (now (walk .exit)) ≡ locationNext (now (walk .entry)) (nextLocation (splitIn (now (walk .entry))) (encodingOf encoding) (endianOf (encoding .«big_endian»)) (now (section .entry)) (now («debug_addr» .entry)) (record { 0 = «debug_addr_base» }) (walkIn (now (walk .entry)))) ⌝ }
+    ensures { λ r. ⌜ left r (now (walk .exit)) ≡ locationNext (now (walk .entry)) (nextLocation (splitIn (now (walk .entry))) (encodingOf encoding) (endianIn encoding) (now (section .entry)) (now («debug_addr» .entry)) (record { 0 = «debug_addr_base» }) (walkIn (now (walk .entry)))) ⌝ }
 {
     let start = ffi_words::walks::walk_in(walk);
     let split = ffi_words::walks::split_in(walk);
     let unit = ffi_words::common::encoding_of(encoding);
-    let endian = ffi_words::common::endian_of(encoding.big_endian);
+    let endian = ffi_words::common::endian_in(encoding);
     let r = lists::loclists::next(
         section,
         debug_addr,

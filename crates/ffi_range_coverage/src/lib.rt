@@ -11,7 +11,7 @@ ghost use Rattle.coverage.specs.Covered.{rangeList, source, coverageOf, readBac
 ghost use Rattle.canonical.specs.Canonical.{canonicalOf};
 ghost use Rattle.coverage.specs.Output.{written};
 ghost use Rattle.coverage.specs.Told.{made};
-ghost use Rattle.ffi_words.specs.Common.{endianOf, encodingOf, left};
+ghost use Rattle.ffi_words.specs.Common.{endianIn, encodingOf, left};
 ghost use Rattle.ffi_words.specs.Coverages.{handed, handsOut, outputLeft};
 
 // The refusals of opening, then the first of a walk's refusal and 10.
@@ -26,10 +26,10 @@ pub extern "C" fn yz_range_coverage(
     begins: &mut Places,
     ends: &mut Places,
 ) -> YzCount
-    ensures { λ r. ⌜ handed r (now (begins .exit)) (now (ends .exit)) ≡ handsOut (made (coverageOf (source rangeList (encodingOf encoding) (endianOf (encoding .«big_endian»)) (now (section .entry)) offset «base_address» (now («debug_addr» .entry)) (record { 0 = «debug_addr_base» })))) (now (begins .entry)) (now (ends .entry)) ⌝ }
+    ensures { λ r. ⌜ handed r (now (begins .exit)) (now (ends .exit)) ≡ handsOut (made (coverageOf (source rangeList (encodingOf encoding) (endianIn encoding) (now (section .entry)) offset «base_address» (now («debug_addr» .entry)) (record { 0 = «debug_addr_base» })))) (now (begins .entry)) (now (ends .entry)) ⌝ }
 {
     let unit = ffi_words::common::encoding_of(encoding);
-    let endian = ffi_words::common::endian_of(encoding.big_endian);
+    let endian = ffi_words::common::endian_in(encoding);
     let made = coverage::collect::range_coverage(
         section,
         debug_addr,
@@ -53,10 +53,10 @@ pub extern "C" fn yz_range_canonical(
     base_address: u64,
     output: &mut [u8],
 ) -> YzCount
-    ensures { λ r. ⌜ left r (now (output .exit)) ≡ outputLeft (written (canonicalOf (source rangeList (encodingOf encoding) (endianOf (encoding .«big_endian»)) (now (section .entry)) offset «base_address» (now («debug_addr» .entry)) (record { 0 = «debug_addr_base» }))) (now (output .entry))) ⌝ }
+    ensures { λ r. ⌜ left r (now (output .exit)) ≡ outputLeft (written (canonicalOf (source rangeList (encodingOf encoding) (endianIn encoding) (now (section .entry)) offset «base_address» (now («debug_addr» .entry)) (record { 0 = «debug_addr_base» }))) (now (output .entry))) ⌝ }
 {
     let unit = ffi_words::common::encoding_of(encoding);
-    let endian = ffi_words::common::endian_of(encoding.big_endian);
+    let endian = ffi_words::common::endian_in(encoding);
     let r = canonical::of_list::canonical_ranges(
         section,
         debug_addr,

@@ -7,7 +7,7 @@ use ffi_words::ranges::YzRawRange;
 use ffi_words::walks::WalkWords;
 ghost use mathlib.Core.Path.{_≡_};
 ghost use Rattle.lists.specs.Walk.{nextRawRange};
-ghost use Rattle.ffi_words.specs.Common.{endianOf, encodingOf, left};
+ghost use Rattle.ffi_words.specs.Common.{endianIn, encodingOf, left};
 ghost use Rattle.ffi_words.specs.Walks.{walkIn};
 ghost use Rattle.ffi_words.specs.Entries.{rangeIn, noRangeEntry, heardRange, rawNext, convertRange};
 ghost use Rattle.ffi_words.specs.Ranges.{rangeOutcome};
@@ -19,11 +19,11 @@ pub extern "C" fn yz_range_next_raw(
     encoding: YzEncoding,
     walk: &mut WalkWords,
 ) -> YzRawRange
-    ensures { λ r. ⌜ heardRange r (now (walk .exit)) ≡ rawNext (rangeIn noRangeEntry) (now (walk .entry)) (nextRawRange (encodingOf encoding) (endianOf (encoding .«big_endian»)) (now (section .entry)) (walkIn (now (walk .entry)))) ⌝ }
+    ensures { λ r. ⌜ heardRange r (now (walk .exit)) ≡ rawNext (rangeIn noRangeEntry) (now (walk .entry)) (nextRawRange (encodingOf encoding) (endianIn encoding) (now (section .entry)) (walkIn (now (walk .entry)))) ⌝ }
 {
     let start = ffi_words::walks::walk_in(walk);
     let unit = ffi_words::common::encoding_of(encoding);
-    let endian = ffi_words::common::endian_of(encoding.big_endian);
+    let endian = ffi_words::common::endian_in(encoding);
     let r = lists::rnglists::next_raw(section, start, unit, endian);
     ffi_words::ranges::raw_range(r, walk)
 }
@@ -37,11 +37,11 @@ pub extern "C" fn yz_range_convert_raw(
     entry: YzRangeEntry,
     walk: &mut WalkWords,
 ) -> YzRange
-    ensures { λ r. ⌜ left r (now (walk .exit)) ≡ rangeOutcome (now (walk .entry)) (convertRange (encodingOf encoding) (endianOf (encoding .«big_endian»)) (now («debug_addr» .entry)) (record { 0 = «debug_addr_base» }) (walkIn (now (walk .entry))) entry) ⌝ }
+    ensures { λ r. ⌜ left r (now (walk .exit)) ≡ rangeOutcome (now (walk .entry)) (convertRange (encodingOf encoding) (endianIn encoding) (now («debug_addr» .entry)) (record { 0 = «debug_addr_base» }) (walkIn (now (walk .entry))) entry) ⌝ }
 {
     let start = ffi_words::walks::walk_in(walk);
     let unit = ffi_words::common::encoding_of(encoding);
-    let endian = ffi_words::common::endian_of(encoding.big_endian);
+    let endian = ffi_words::common::endian_in(encoding);
     let r = ffi_words::ranges::convert(
         entry,
         debug_addr,

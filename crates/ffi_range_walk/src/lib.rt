@@ -9,7 +9,7 @@ ghost use mathlib.Core.Path.{_≡_};
 ghost use mathlib.Core.Bool.{false};
 ghost use Rattle.lists.specs.Open.{opened};
 ghost use Rattle.lists.specs.Walk.{nextRange};
-ghost use Rattle.ffi_words.specs.Common.{endianOf, encodingOf, left};
+ghost use Rattle.ffi_words.specs.Common.{endianIn, encodingOf, left};
 ghost use Rattle.ffi_words.specs.Walks.{walkIn, openedWords};
 ghost use Rattle.ffi_words.specs.Ranges.{rangeNext};
 
@@ -37,11 +37,11 @@ pub extern "C" fn yz_range_next(
     encoding: YzEncoding,
     walk: &mut WalkWords,
 ) -> YzRange
-    ensures { λ r. ⌜ left r (now (walk .exit)) ≡ rangeNext (now (walk .entry)) (nextRange (encodingOf encoding) (endianOf (encoding .«big_endian»)) (now (section .entry)) (now («debug_addr» .entry)) (record { 0 = «debug_addr_base» }) (walkIn (now (walk .entry)))) ⌝ }
+    ensures { λ r. ⌜ left r (now (walk .exit)) ≡ rangeNext (now (walk .entry)) (nextRange (encodingOf encoding) (endianIn encoding) (now (section .entry)) (now («debug_addr» .entry)) (record { 0 = «debug_addr_base» }) (walkIn (now (walk .entry)))) ⌝ }
 {
     let start = ffi_words::walks::walk_in(walk);
     let unit = ffi_words::common::encoding_of(encoding);
-    let endian = ffi_words::common::endian_of(encoding.big_endian);
+    let endian = ffi_words::common::endian_in(encoding);
     let r = lists::rnglists::next(
         section,
         debug_addr,

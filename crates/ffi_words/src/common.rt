@@ -6,15 +6,16 @@ use bytes::endianity::RunTimeEndian;
 use bytes::error::Error;
 ghost use mathlib.Core.Path.{_≡_};
 ghost use Rattle.bytes.specs.Error.{number, values};
-ghost use Rattle.ffi_words.specs.Common.{endianOf, formatOf, encodingOf, isSet, fileOf, isDwarf64, encodingTold, noEncoding, noPart, comesTo, refusedBy};
+ghost use Rattle.ffi_words.specs.Common.{endianOf, endianIn, formatOf, encodingOf, isSet, fileOf, isDwarf64, encodingTold, noEncoding, noPart, comesTo, refusedBy};
 
-// How a unit is written.
+// How a unit is written; any number but 0 says big-endian. It has 8 bytes: a caller that is out of registers passes it with one
+// store, which can be forwarded to the load here.
 #[repr(C)]
 pub struct YzEncoding {
     pub version: u16,
     pub address_size: u8,
     pub dwarf64: bool,
-    pub big_endian: bool,
+    pub big_endian: u32,
 }
 
 // A part of a section.
@@ -50,6 +51,12 @@ pub fn endian_of(big_endian: bool) -> RunTimeEndian
         return RunTimeEndian::Big;
     }
     RunTimeEndian::Little
+}
+
+pub fn endian_in(encoding: YzEncoding) -> RunTimeEndian
+    ensures { λ r. ⌜ r ≡ endianIn encoding ⌝ }
+{
+    endian_of(is_set(encoding.big_endian as u64))
 }
 
 pub fn format_of(dwarf64: bool) -> Format
@@ -109,7 +116,7 @@ pub fn encoding_told(encoding: Encoding, big_endian: bool) -> YzEncoding
         version: encoding.version,
         address_size: encoding.address_size,
         dwarf64: is_dwarf64(format),
-        big_endian,
+        big_endian: big_endian as u32,
     }
 }
 
@@ -149,6 +156,6 @@ pub fn no_encoding() -> YzEncoding
         version: 0,
         address_size: 0,
         dwarf64: false,
-        big_endian: false,
+        big_endian: 0,
     }
 }
