@@ -108,7 +108,7 @@ typedef struct yz_encoding {
     uint16_t version;     /* up to 4 bare pairs, from 5 on entries with kinds */
     uint8_t address_size; /* 1, 2, 4 or 8; every other size is refused with 6 */
     bool dwarf64;         /* the 64-bit format */
-    bool big_endian;      /* the byte order of its sections */
+    uint32_t big_endian;  /* the byte order of its sections: 0 the lowest byte first, any other number the highest */
 } yz_encoding;
 
 /* Whether a section is of the main file or of a split one. */

@@ -74,7 +74,7 @@ impl Encoding {
             version: self.version,
             address_size: self.address_size,
             dwarf64: self.format.is_dwarf64(),
-            big_endian: endian.is_big_endian(),
+            big_endian: endian.is_big_endian().into(),
         }
     }
 }

@@ -53,7 +53,7 @@ macro_rules! structs {
 }
 
 structs! {
-    Encoding { version: u16, address_size: u8, dwarf64: bool, big_endian: bool, }
+    Encoding { version: u16, address_size: u8, dwarf64: bool, big_endian: u32, }
     Part { offset: u64, length: u64, }
     Walk { at: u64, base_address: u64, split: u64, }
     RangeEntry { kind: u64, first: u64, second: u64, }
@@ -90,7 +90,7 @@ macro_rules! pinned {
 }
 
 pinned! {
-    Encoding: 6, version 0, address_size 2, dwarf64 3, big_endian 4;
+    Encoding: 8, version 0, address_size 2, dwarf64 3, big_endian 4;
     Part: 16, offset 0, length 8;
     Walk: 24, at 0, base_address 8, split 16;
     RangeEntry: 24, kind 0, first 8, second 16;

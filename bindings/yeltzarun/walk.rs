@@ -1,12 +1,13 @@
 //! What both kinds of walk have: a list as it is written, and an address table.
 
 use super::ffi;
-use super::{DebugAddr, DebugAddrBase, Encoding, EndianSlice, Error, Result};
+use super::{DebugAddr, DebugAddrBase, Encoding, EndianSlice, Error, Result, RunTimeEndian};
 
 /// A list's section and how it is written.
 #[derive(Debug, Clone, Copy)]
 pub(super) struct Written<'a> {
     pub(super) section: &'a [u8],
+    endian: RunTimeEndian,
     pub(super) encoding: ffi::Encoding,
 }
 
@@ -21,7 +22,8 @@ impl<'a> Written<'a> {
         let older_holds =
             ffi::yz_section_of(encoding.in_order(older.endian)) == ffi::SECTION_BEFORE_5;
         let chosen = if older_holds { older } else { newer };
-        Written { section: chosen.section, encoding: encoding.in_order(chosen.endian) }
+        let EndianSlice { section, endian, .. } = chosen;
+        Written { section, endian, encoding: encoding.in_order(endian) }
     }
 
     pub(super) fn ptr(&self) -> ffi::Ptr {
@@ -39,7 +41,7 @@ impl<'a> Written<'a> {
         base: DebugAddrBase,
     ) -> Result<Table<'a>> {
         let EndianSlice { section: bytes, endian, .. } = debug_addr.section;
-        if !bytes.is_empty() && endian.is_big_endian() != self.encoding.big_endian {
+        if !bytes.is_empty() && endian != self.endian {
             return Err(Error::MixedByteOrders);
         }
         Ok(Table { bytes, base: base.0 })
