@@ -45,7 +45,7 @@ macro_rules! structs {
     ($($(#[$doc:meta])* $name:ident { $($field:ident: $type:ty,)* })*) => {
         $($(#[$doc])*
         #[repr(C)]
-        #[derive(Debug, Clone, Copy, PartialEq, Eq)]
+        #[derive(Debug, Default, Clone, Copy, PartialEq, Eq)]
         pub struct $name {
             $(pub $field: $type,)*
         })*
