@@ -21,9 +21,9 @@ ghost use mathlib.Core.Path.{_≡_};
 ghost use Rattle.bytes.specs.Read.{gives};
 ghost use Rattle.lists.specs.Walk.{toldNextRange, toldRawRange, toldConvertedRange};
 ghost use Rattle.lookups.specs.Lookup.{toldRange};
-ghost use Rattle.ffi_words.specs.Common.{left};
-ghost use Rattle.ffi_words.specs.Entries.{whole, toldRangeTaken, rangeTaken, rangeIn, heardRange, noRangeEntry, rawNext, convertRange};
-ghost use Rattle.ffi_words.specs.Ranges.{rangeTold, noRange, rangeNext, rangeOutcome, rangeFound};
+ghost use Rattle.ffi_words.specs.Common.{done, left};
+ghost use Rattle.ffi_words.specs.Entries.{whole, toldRangeTaken, entryOnly, rangeIn, heardRange, noRangeEntry, rawNext, convertRange};
+ghost use Rattle.ffi_words.specs.Ranges.{range as rangeOf, noRange, rangeNext, rangeOutcome, rangeFound};
 
 #[repr(C)]
 pub struct YzRange {
@@ -47,7 +47,7 @@ pub struct YzRawRange {
 }
 
 fn range_told(range: Range) -> YzRange
-    ensures { λ r. ⌜ r ≡ rangeTold (range .begin) (range .end) ⌝ }
+    ensures { λ r. ⌜ r ≡ rangeOf done (range .begin) (range .end) ⌝ }
 {
     YzRange {
         done: super::common::comes_to(DONE),
@@ -155,11 +155,12 @@ pub enum RangeTaken {
 }
 
 pub fn entry_in(entry: YzRangeEntry) -> RangeTaken
-    ensures { λ r. ⌜ toldRangeTaken r ≡ rangeTaken entry ⌝ }
+    ensures { λ r. ⌜ toldRangeTaken r ≡ entryOnly (rangeIn entry) ⌝ }
 {
+    let code = entry.kind;
     let first = entry.first;
     let second = entry.second;
-    match entry.kind {
+    match code {
         0 => RangeTaken::Entry(RawRngListEntry::AddressOrOffsetPair(first, second)),
         1 => RangeTaken::Entry(RawRngListEntry::BaseAddressx(DebugAddrIndex(first))),
         2 => RangeTaken::Entry(RawRngListEntry::StartxEndx(
@@ -171,7 +172,7 @@ pub fn entry_in(entry: YzRangeEntry) -> RangeTaken
         5 => RangeTaken::Entry(RawRngListEntry::BaseAddress(first)),
         6 => RangeTaken::Entry(RawRngListEntry::StartEnd(first, second)),
         7 => RangeTaken::Entry(RawRngListEntry::StartLength(first, second)),
-        _ => RangeTaken::Refused(Error::UnknownRangeListsEntry(entry.kind)),
+        _ => RangeTaken::Refused(Error::UnknownRangeListsEntry(code)),
     }
 }
 
