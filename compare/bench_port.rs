@@ -24,8 +24,9 @@ fn lent(row: &Row) -> (Ptr, usize, Ptr, usize) {
     (row.section.as_ptr(), row.section.len(), row.table.as_ptr(), row.table.len())
 }
 
-/// How a row's lists are written, made before all passes: a word in memory, as the wrapper has it. A
-/// caller that makes it anew stores it in pieces, and its load as one word waits for them.
+/// How a row's lists are written, made before all passes: a word in memory, as
+/// the wrapper has it. A caller that makes it anew for each call stores it in
+/// pieces, and the load of the word waits for them.
 #[inline(never)]
 fn encoding(row: &Row) -> Encoding {
     Encoding {

@@ -15,11 +15,12 @@ use oracle::oracle_api::{
 
 pub struct Ffi;
 
-/// The last word of a range list's walk: no call may look at it or change it.
+/// The last word of a range list's walk: no call may look at it or change it;
+/// and all words of a walk that is not opened yet.
 const OLD: u64 = 0x5555_5555_5555_5555;
 
-/// An answer by its result, `without` being the one that has no item; the fields that a result
-/// doesn't name must be 0.
+/// An answer by its result, `without` being the one that has no item; the
+/// fields that a result doesn't name must be 0.
 fn answer<T: Default + PartialEq, U>(
     answer: ffi::Answer<T>,
     without: u32,
@@ -112,7 +113,8 @@ fn location(location: Location) -> Yielded {
     Yielded { begin, end, expression: Some(place(expression)) }
 }
 
-/// The same of an answer that was read from the section: the expression lies there.
+/// The same of an answer that was read from the section: the expression lies
+/// there.
 fn location_in(section: &[u8], found: Location) -> Yielded {
     let lying = unsafe { yz_expression(section.as_ptr(), section.len(), found.expression) };
     assert!(lying == found.expression);
