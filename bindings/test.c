@@ -74,15 +74,23 @@ static void same(fields got, const uint64_t *expected, int line, const char *wha
     check(all, line, what);
 }
 
-/* A call that answers by a type with these fields; all that follow must be 0. Where it can, the compiler lets the call write
- * over old bytes. */
+/* Bytes that become old; the pointer keeps the compiler from seeing to what end. */
+static void make_old(void *bytes, size_t n) { memset(bytes, OLD, n); }
+static void (*volatile old)(void *, size_t) = make_old;
+
+/* A call that answers by a type with these fields; all that follow must be 0. Most compilers have the call write its answer
+ * where the old one was. */
 #define IS(type, call, ...)                                                                                          \
     do {                                                                                                             \
         const uint64_t expected[FIELDS] = {__VA_ARGS__};                                                             \
-        yz_##type answer;                                                                                            \
-        memset(&answer, OLD, sizeof answer);                                                                         \
-        answer = call;                                                                                               \
-        same(of_##type(answer), expected, __LINE__, #call);                                                          \
+        do {                                                                                                         \
+            yz_##type stale;                                                                                         \
+            old(&stale, sizeof stale);                                                                               \
+        } while (0);                                                                                                 \
+        do {                                                                                                         \
+            const yz_##type answer = call;                                                                           \
+            same(of_##type(answer), expected, __LINE__, #call);                                                      \
+        } while (0);                                                                                                 \
     } while (0)
 
 /* The first fields of an answer. */

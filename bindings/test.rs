@@ -27,7 +27,10 @@ impl Checks {
     }
 }
 
-const TESTS: &[(&str, fn(&mut Checks))] = &[
+/// A name, and what is run.
+type Test = (&'static str, fn(&mut Checks));
+
+const TESTS: &[Test] = &[
     ("yz_version", versions),
     ("yz_uleb128", uleb128),
     ("yz_read_u8", read_u8),
@@ -75,7 +78,7 @@ const TESTS: &[(&str, fn(&mut Checks))] = &[
 ];
 
 /// What the wrapper has beside its calls.
-const MORE_TESTS: &[(&str, fn(&mut Checks))] = &[
+const MORE_TESTS: &[Test] = &[
     ("Error", errors),
     ("Error::MixedByteOrders", byte_orders),
     ("Iterator", iterators),

@@ -406,8 +406,8 @@ yz_range yz_range_next(const uint8_t *section, size_t section_len, const uint8_t
 /* The next entry as it is written. Done, end, or refused: 6 before all else; 1, 2, 3. */
 yz_raw_range yz_range_next_raw(const uint8_t *section, size_t section_len, yz_encoding encoding, yz_walk *walk);
 
-/* What such an entry comes to. Done: a range. Nothing: none, but perhaps another base address in the walk. Refused: 6, then 3
- * for a kind above 7; 1 and 9 by the address table. */
+/* What an entry comes to that yz_range_next_raw gave. Done: a range. Nothing: none, but perhaps another base address in the
+ * walk. Refused: 6, then 3 for a kind above 7; 1 and 9 by the address table. */
 yz_range yz_range_convert_raw(const uint8_t *debug_addr, size_t debug_addr_len, uint64_t debug_addr_base,
                               yz_encoding encoding, yz_range_entry entry, yz_walk *walk);
 
@@ -422,9 +422,9 @@ yz_location yz_location_next(const uint8_t *section, size_t section_len, const u
 /* The next entry as it is written. Done, end, or refused: 6 before all else; 1, 2, 4. */
 yz_raw_location yz_location_next_raw(const uint8_t *section, size_t section_len, yz_encoding encoding, yz_walk *walk);
 
-/* What such an entry comes to. Done: a location; the expression is handed on as it came in, whether or not it lies in a
- * section. Nothing: none, but perhaps another base address in the walk. Refused: 6, then 4 for a kind above 8; 1 and 9 by
- * the address table. */
+/* What an entry comes to that yz_location_next_raw gave. Done: a location; the expression is handed on as it came in, whether
+ * or not it lies in a section. Nothing: none, but perhaps another base address in the walk. Refused: 6, then 4 for a kind
+ * above 8; 1 and 9 by the address table. */
 yz_location yz_location_convert_raw(const uint8_t *debug_addr, size_t debug_addr_len, uint64_t debug_addr_base,
                                     yz_encoding encoding, yz_location_entry entry, yz_walk *walk);
 
