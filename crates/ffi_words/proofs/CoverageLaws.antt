@@ -14,5 +14,6 @@ pub handed-out : (bs es : List ℕ) {h : Handed} {a b : Answer} → h ≡ handsO
 handed-out bs es h t = h ∙ ap (λ (a : Answer). handsOut a bs es) t
 
 -- an output written
-pub output-left : (r : Result ℕ) {out : List ℕ} {a : YzCount} {o : Output} → a ≡ countWritten r → output r out ≡ o → left a out ≡ outputLeft o
+pub output-left : (r : Result ℕ) {out : List ℕ} {a : YzCount} {o : Output}
+    → a ≡ countWritten r → output r out ≡ o → left a out ≡ outputLeft o
 output-left r {out = out} e h = ap (λ (a : YzCount). left a out) e ∙ ap outputLeft h

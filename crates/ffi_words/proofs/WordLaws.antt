@@ -1,5 +1,5 @@
 -- The numbers of refusals are small. Assumes nothing.
-use Prim.Native.Nat.{ℕ, _^_, _<_}
+use Prim.Native.Nat.{_<_}
 use native.Mathlib.Omega.{arith}
 use Rattle.bytes.specs.Error.{number}
 use Rattle.bytes.specs.declared.error.Error.{Error}

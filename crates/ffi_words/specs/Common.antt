@@ -51,7 +51,12 @@ isDwarf64 Dwarf64 = true
 
 abbrev pub encodingTold : Encoding → Bool → YzEncoding
 encodingTold encoding bigEndian =
-    record { version = encoding .version; «address_size» = encoding .«address_size»; dwarf64 = isDwarf64 (encoding .format); «big_endian» = numberOf bigEndian }
+    record {
+      version = encoding .version;
+      «address_size» = encoding .«address_size»;
+      dwarf64 = isDwarf64 (encoding .format);
+      «big_endian» = numberOf bigEndian;
+    }
 
 abbrev pub noEncoding : YzEncoding
 noEncoding = record { version = 0; «address_size» = 0; dwarf64 = false; «big_endian» = 0 }

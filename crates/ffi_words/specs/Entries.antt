@@ -1,7 +1,8 @@
--- Raw entries as numbers: the code of the kind, by the tables of kinds, and what fills its operands. The end mark is no entry, and
--- its code stands for the bare pair.
+-- Raw entries as numbers: the code of the kind, by the tables of kinds, and what fills its operands. The end mark is no entry,
+-- and its code stands for the bare pair.
 use Prim.Native.Nat.{ℕ}
 use mathlib.Core.List.{List, [], _∷_}
+use mathlib.Core.Path.{_≡_}
 use Rattle.bytes.specs.Read.{Result, gives, refuses, pick}
 use Rattle.bytes.specs.Error.{number, values, refusing}
 use Rattle.bytes.specs.Reader.{isSize}
@@ -21,7 +22,7 @@ use Rattle.entries.specs.declared.RawLocListEntry.{RawLocListEntry}
 use Rattle.entries.specs.declared.RawLocListEntry.the-variants as loc
 use Rattle.lists.specs.Walk.{Outcome, refuses as outcomeRefuses, convertedRange, convertedLocation}
 use Rattle.lists.specs.declared.Walk.{Walk}
-use Rattle.ffi_words.specs.Common.{part, noPart, done, ended, refusedBy}
+use Rattle.ffi_words.specs.Common.{part, noPart, done, ended, refusedBy, Left, left}
 use Rattle.ffi_words.specs.Walks.{handedBack}
 use Rattle.ffi_words.specs.declared.common.YzDone.{YzDone}
 use Rattle.ffi_words.specs.declared.common.YzPart.{YzPart}
@@ -58,7 +59,8 @@ fill (address ∷ fs) e a b x = fill fs (e a) b 0 x
 fill (expression ∷ fs) e a b x = fill fs (e x) a b noExpression
 
 -- a code without a kind is refused, with the code
-abbrev pub entryBy : {E : Type 0} → (ℕ → Error) → (fs : List Form) → Takes fs E → ℕ → Kind E → ℕ → ℕ → Expression → Result (Filled E)
+abbrev pub entryBy : {E : Type 0} → (ℕ → Error) → (fs : List Form) → Takes fs E → ℕ → Kind E → ℕ → ℕ → Expression
+    → Result (Filled E)
 entryBy unknownEntry fs pair code endOfList a b x = gives (fill fs pair a b x)
 entryBy unknownEntry fs pair code unknown a b x = refusing (unknownEntry code)
 entryBy unknownEntry fs pair code (kind gs e) a b x = gives (fill gs e a b x)
@@ -66,8 +68,8 @@ entryBy unknownEntry fs pair code (kind gs e) a b x = gives (fill gs e a b x)
 -- the entries that numbers are
 unfoldable pub rangeIn : YzRangeEntry → Result (Filled RawRngListEntry)
 rangeIn t =
-    entryBy UnknownRangeListsEntry (address ∷ address ∷ []) rng.AddressOrOffsetPair (t .kind) (kindOf rangeKinds (t .kind))
-    (t .first) (t .second) noExpression
+    entryBy UnknownRangeListsEntry (address ∷ address ∷ []) rng.AddressOrOffsetPair (t .kind)
+    (kindOf rangeKinds (t .kind)) (t .first) (t .second) noExpression
 
 abbrev pub expressionIn : YzPart → Expression
 expressionIn x = record { offset = x .offset; len = x .length }
@@ -77,8 +79,8 @@ expressionTold x = part (x .offset) (x .len)
 
 unfoldable pub locationIn : YzLocationEntry → Result (Filled RawLocListEntry)
 locationIn t =
-    entryBy UnknownLocListsEntry (address ∷ address ∷ expression ∷ []) loc.AddressOrOffsetPair (t .kind) (kindOf locationKinds (t .kind))
-    (t .first) (t .second) (expressionIn (t .expression))
+    entryBy UnknownLocListsEntry (address ∷ address ∷ expression ∷ []) loc.AddressOrOffsetPair (t .kind)
+    (kindOf locationKinds (t .kind)) (t .first) (t .second) (expressionIn (t .expression))
 
 abbrev pub noRangeEntry : YzRangeEntry
 noRangeEntry = record { kind = 0; first = 0; second = 0 }
@@ -86,26 +88,18 @@ noRangeEntry = record { kind = 0; first = 0; second = 0 }
 abbrev pub noLocationEntry : YzLocationEntry
 noLocationEntry = record { kind = 0; first = 0; second = 0; expression = noPart }
 
--- a raw answer as the entry that it is when it is handed back in, and the walk's words
-pub record Heard (E : Type 0) : Type 0 where
-  pub done : YzDone
-  pub entry : Result (Filled E)
-  pub walk : List ℕ
+-- what a raw call tells, beside what it leaves: an entry so that, handed back in, it is the same and nothing is over; without an
+-- entry, every number is 0
+abbrev pub RawTold : {T E : Type 0} → (T → Result (Filled E)) → T → List ℕ → Next E Walk → Left YzDone → T → Type 0
+RawTold handedIn none ws (yields e w) l t = (l ≡ left done (handedBack ws w)) × (handedIn t ≡ gives (whole e))
+RawTold handedIn none ws (ends w) l t = (l ≡ left ended (handedBack ws w)) × (t ≡ none)
+RawTold handedIn none ws (stops n vs w) l t = (l ≡ left (refusedBy n vs) (handedBack ws w)) × (t ≡ none)
 
-abbrev pub heard : {E : Type 0} → YzDone → Result (Filled E) → List ℕ → Heard E
-heard d e ws = record { done = d; entry = e; walk = ws }
+abbrev pub RawRangeTold : List ℕ → Next RawRngListEntry Walk → YzRawRange → List ℕ → Type 0
+RawRangeTold ws n r vs = RawTold rangeIn noRangeEntry ws n (left (r .done) vs) (r .entry)
 
-abbrev pub heardRange : YzRawRange → List ℕ → Heard RawRngListEntry
-heardRange r ws = heard (r .done) (rangeIn (r .entry)) ws
-
-abbrev pub heardLocation : YzRawLocation → List ℕ → Heard RawLocListEntry
-heardLocation r ws = heard (r .done) (locationIn (r .entry)) ws
-
--- an entry goes out so that, handed back in, it is the same and nothing is over; without one, every number is 0
-abbrev pub rawNext : {E : Type 0} → Result (Filled E) → List ℕ → Next E Walk → Heard E
-rawNext none ws (yields e w) = heard done (gives (whole e)) (handedBack ws w)
-rawNext none ws (ends w) = heard ended none (handedBack ws w)
-rawNext none ws (stops n vs w) = heard (refusedBy n vs) none (handedBack ws w)
+abbrev pub RawLocationTold : List ℕ → Next RawLocListEntry Walk → YzRawLocation → List ℕ → Type 0
+RawLocationTold ws n r vs = RawTold locationIn noLocationEntry ws n (left (r .done) vs) (r .entry)
 
 -- whatever is over
 abbrev pub entryOnly : {E : Type 0} → Result (Filled E) → Result E
@@ -118,15 +112,18 @@ onTaken w f (gives e) = f e
 onTaken w f (refuses n vs) = outcomeRefuses n vs w
 
 abbrev pub sized : {D : Type 0} → ℕ → Walk → Outcome D → Outcome D
-sized size w o = pick (isSize size) o (outcomeRefuses (number (UnsupportedAddressSize size)) (values (UnsupportedAddressSize size)) w)
+sized size w o =
+    pick (isSize size) o (outcomeRefuses (number (UnsupportedAddressSize size)) (values (UnsupportedAddressSize size)) w)
 
 unfoldable pub convertRange : Encoding → RunTimeEndian → List ℕ → DebugAddrBase → Walk → YzRangeEntry → Outcome Unit
 convertRange encoding endian table tableBase w t =
-    sized (encoding .«address_size») w (onTaken w (convertedRange encoding endian table tableBase w) (entryOnly (rangeIn t)))
+    sized (encoding .«address_size») w
+    (onTaken w (convertedRange encoding endian table tableBase w) (entryOnly (rangeIn t)))
 
 unfoldable pub convertLocation : Encoding → RunTimeEndian → List ℕ → DebugAddrBase → Walk → YzLocationEntry → Outcome Expression
 convertLocation encoding endian table tableBase w t =
-    sized (encoding .«address_size») w (onTaken w (convertedLocation encoding endian table tableBase w) (entryOnly (locationIn t)))
+    sized (encoding .«address_size») w
+    (onTaken w (convertedLocation encoding endian table tableBase w) (entryOnly (locationIn t)))
 
 -- the code's answers
 abbrev pub toldRangeTaken : RangeTaken → Result RawRngListEntry

@@ -45,7 +45,9 @@ headersLeft w = w .at ∷ []
 
 abbrev pub tableNext : Bool → Next AddrHeader AddrHeaderIter → Left YzTableHeader
 tableNext bigEndian (yields h w) =
-    left (table done (encodingTold (h .encoding) bigEndian) (h .offset .0) (h .length) (part (h .entries .offset) (h .entries .len))) (headersLeft w)
+    left
+    (table done (encodingTold (h .encoding) bigEndian) (h .offset .0) (h .length) (part (h .entries .offset) (h .entries .len)))
+    (headersLeft w)
 tableNext bigEndian (ends w) = left (noTable ended) (headersLeft w)
 tableNext bigEndian (stops n vs w) = left (noTable (refusedBy n vs)) (headersLeft w)
 

@@ -4,6 +4,7 @@ pub mod Reads
 pub mod Headers
 pub mod Sections
 pub mod Entries
+pub mod Items
 pub mod Ranges
 pub mod Locations
 pub mod Coverages

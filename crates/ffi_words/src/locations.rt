@@ -21,11 +21,11 @@ use lists::loclists::RawLocationAnswer;
 use lookups::LocationFound;
 ghost use mathlib.Core.Path.{_≡_};
 ghost use Rattle.bytes.specs.Read.{gives};
-ghost use Rattle.lists.specs.Walk.{toldNextLocation, toldRawLocation, toldConvertedLocation};
+ghost use Rattle.lists.specs.Walk.{item, toldNextLocation, toldRawLocation, toldConvertedLocation};
 ghost use Rattle.lookups.specs.Lookup.{toldLocation};
-ghost use Rattle.ffi_words.specs.Common.{done, left, noPart};
-ghost use Rattle.ffi_words.specs.Entries.{whole, expressionIn, expressionTold, toldLocationTaken, entryOnly, locationIn, heardLocation, noLocationEntry, rawNext, convertLocation};
-ghost use Rattle.ffi_words.specs.Locations.{location as locationOf, noLocation, locationNext, locationOutcome, locationFound};
+ghost use Rattle.ffi_words.specs.Common.{left, noPart};
+ghost use Rattle.ffi_words.specs.Entries.{whole, expressionIn, expressionTold, toldLocationTaken, entryOnly, locationIn, RawLocationTold, convertLocation};
+ghost use Rattle.ffi_words.specs.Locations.{locationTold, noLocation, locationNext, locationOutcome, locationFound};
 
 #[repr(C)]
 pub struct YzLocation {
@@ -60,7 +60,7 @@ fn expression_told(x: Expression) -> YzPart
 }
 
 fn location_told(location: LocationListEntry) -> YzLocation
-    ensures { λ r. ⌜ r ≡ locationOf done (location .range .begin) (location .range .end) (expressionTold (location .«data»)) ⌝ }
+    ensures { λ r. ⌜ r ≡ locationTold (item (location .range .begin) (location .range .end) (location .«data»)) ⌝ }
 {
     let range = location.range;
     let data = location.data;
@@ -151,7 +151,7 @@ fn entry_out(raw: RawLocListEntry) -> YzLocationEntry
 }
 
 pub fn raw_location(r: RawLocationAnswer, words: &mut WalkWords) -> YzRawLocation
-    ensures { λ a. ⌜ heardLocation a (now (words .exit)) ≡ rawNext (locationIn noLocationEntry) (now (words .entry)) (toldRawLocation r) ⌝ }
+    ensures { λ a. ⌜ RawLocationTold (now (words .entry)) (toldRawLocation r) a (now (words .exit)) ⌝ }
 {
     match r {
         RawLocationAnswer::Entry(raw, walk) => {

@@ -19,11 +19,11 @@ use lists::rnglists::RawRangeAnswer;
 use lookups::RangeFound;
 ghost use mathlib.Core.Path.{_≡_};
 ghost use Rattle.bytes.specs.Read.{gives};
-ghost use Rattle.lists.specs.Walk.{toldNextRange, toldRawRange, toldConvertedRange};
+ghost use Rattle.lists.specs.Walk.{item, toldNextRange, toldRawRange, toldConvertedRange};
 ghost use Rattle.lookups.specs.Lookup.{toldRange};
-ghost use Rattle.ffi_words.specs.Common.{done, left};
-ghost use Rattle.ffi_words.specs.Entries.{whole, toldRangeTaken, entryOnly, rangeIn, heardRange, noRangeEntry, rawNext, convertRange};
-ghost use Rattle.ffi_words.specs.Ranges.{range as rangeOf, noRange, rangeNext, rangeOutcome, rangeFound};
+ghost use Rattle.ffi_words.specs.Common.{left};
+ghost use Rattle.ffi_words.specs.Entries.{whole, toldRangeTaken, entryOnly, rangeIn, RawRangeTold, convertRange};
+ghost use Rattle.ffi_words.specs.Ranges.{rangeTold, noRange, rangeNext, rangeOutcome, rangeFound};
 
 #[repr(C)]
 pub struct YzRange {
@@ -47,7 +47,7 @@ pub struct YzRawRange {
 }
 
 fn range_told(range: Range) -> YzRange
-    ensures { λ r. ⌜ r ≡ rangeOf done (range .begin) (range .end) ⌝ }
+    ensures { λ r. ⌜ r ≡ rangeTold (item (range .begin) (range .end) tt) ⌝ }
 {
     YzRange {
         done: super::common::comes_to(DONE),
@@ -121,7 +121,7 @@ fn entry_out(raw: RawRngListEntry) -> YzRangeEntry
 }
 
 pub fn raw_range(r: RawRangeAnswer, words: &mut WalkWords) -> YzRawRange
-    ensures { λ a. ⌜ heardRange a (now (words .exit)) ≡ rawNext (rangeIn noRangeEntry) (now (words .entry)) (toldRawRange r) ⌝ }
+    ensures { λ a. ⌜ RawRangeTold (now (words .entry)) (toldRawRange r) a (now (words .exit)) ⌝ }
 {
     match r {
         RawRangeAnswer::Entry(raw, walk) => {

@@ -1,6 +1,6 @@
 use Rattle.entries.specs.Kinds.{kindOf, locationKinds}
 use Rattle.ffi_words.specs.Entries.{locationIn}
-use Rattle.ffi_words.proofs.EntryLaws.{unknown-location}
+use Rattle.ffi_words.proofs.EntryLaws.{not-in}
 use borrow.Author.Needs.{needs}
 use Rattle.ffi_words.proofs.locations.entry_in.Statement.{statement}
 use Rattle.ffi_words.proofs.locations.entry_in.Tie as tie
@@ -45,9 +45,10 @@ unfolding locationIn kindOf locationKinds
 returns-9 c = rw (c .match .keys9, c .before .expression-in .ensures)
 
 returns-10 : tie.Need-returns-10
+unfolding locationIn kindOf locationKinds
 returns-10 c =
     let q = c .match .rest in
-    unknown-location (c .before .before .before .args .entry) (q .0 .0 .0 .0 .0 .0 .0 .0 .1) (q .0 .0 .0 .0 .0 .0 .0 .1) (q .0 .0 .0 .0 .0 .0 .1) (q .0 .0 .0 .0 .0 .1) (q .0 .0 .0 .0 .1) (q .0 .0 .0 .1) (q .0 .0 .1) (q .0 .1) (q .1)
+    rw (← not-in (c .before .before .before .args .entry .kind) locationKinds (q .0 .0 .0 .0 .0 .0 .0 .0 .1, (q .0 .0 .0 .0 .0 .0 .0 .1, (q .0 .0 .0 .0 .0 .0 .1, (q .0 .0 .0 .0 .0 .1, (q .0 .0 .0 .0 .1, (q .0 .0 .0 .1, (q .0 .0 .1, (q .0 .1, (q .1, tt))))))))))
 
 pub entry-in-spec : {M : Type 1} → statement M
 entry-in-spec =

@@ -1,6 +1,6 @@
 use Rattle.entries.specs.Kinds.{kindOf, rangeKinds}
 use Rattle.ffi_words.specs.Entries.{rangeIn}
-use Rattle.ffi_words.proofs.EntryLaws.{unknown-range}
+use Rattle.ffi_words.proofs.EntryLaws.{not-in}
 use Rattle.ffi_words.proofs.ranges.entry_in.Statement.{statement}
 use Rattle.ffi_words.proofs.ranges.entry_in.Tie as tie
 
@@ -37,9 +37,10 @@ unfolding rangeIn kindOf rangeKinds
 returns-8 c = rw (c .match .keys8)
 
 returns-9 : tie.Need-returns-9
+unfolding rangeIn kindOf rangeKinds
 returns-9 c =
     let q = c .match .rest in
-    unknown-range (c .before .args .entry) (q .0 .0 .0 .0 .0 .0 .0 .1) (q .0 .0 .0 .0 .0 .0 .1) (q .0 .0 .0 .0 .0 .1) (q .0 .0 .0 .0 .1) (q .0 .0 .0 .1) (q .0 .0 .1) (q .0 .1) (q .1)
+    rw (← not-in (c .before .args .entry .kind) rangeKinds (q .0 .0 .0 .0 .0 .0 .0 .1, (q .0 .0 .0 .0 .0 .0 .1, (q .0 .0 .0 .0 .0 .1, (q .0 .0 .0 .0 .1, (q .0 .0 .0 .1, (q .0 .0 .1, (q .0 .1, (q .1, tt)))))))))
 
 pub entry-in-spec : {M : Type 1} → statement M
 entry-in-spec =
