@@ -1198,6 +1198,23 @@ static void test_location_canonical(void) {
 #undef LIST
 }
 
+static void test_is_canonical(void) {
+    CHECK(yz_is_canonical(S(TOUCHING_CANONICAL)));
+    CHECK(yz_is_canonical(S("\0")));
+    CHECK(yz_is_canonical(S("\x07\0\0\0\0\0\0\0\0\x7f\x07\x80\0\0\0\0\0\0\0\x80\x01\0")));
+    CHECK(yz_is_canonical(S("\x07\0\0\0\0\0\0\0\0\xff\xff\xff\xff\xff\xff\xff\xff\xff\x01\0")));
+    CHECK(!yz_is_canonical(NO_BYTES));
+    CHECK(!yz_is_canonical(S("\x07\x10\0\0\0\0\0\0\0\x20")));
+    CHECK(!yz_is_canonical(S(TOUCHING_CANONICAL "\0")));
+    CHECK(!yz_is_canonical(S("\x07\x10\0\0\0\0\0\0\0\xa0\0\0")));
+    CHECK(!yz_is_canonical(S("\x07\x10\0\0\0\0\0\0\0\0\0")));
+    CHECK(!yz_is_canonical(S("\x07\x01\0\0\0\0\0\0\0\xff\xff\xff\xff\xff\xff\xff\xff\xff\x01\0")));
+    CHECK(!yz_is_canonical(S("\x07\x10\0\0\0\0\0\0\0\x10\x07\x20\0\0\0\0\0\0\0\x10\0")));
+    CHECK(!yz_is_canonical(S("\x07\xfe\xff\xff\xff\xff\xff\xff\xff\x01\0")));
+    CHECK(!yz_is_canonical(S("\x04\x10\x30\0")));
+    CHECK(!yz_is_canonical(S("\x08")));
+}
+
 static const struct { const char *name; void (*run)(void); } tests[] = {
     {"yz_version", test_version},
     {"yz_uleb128", test_uleb128},
@@ -1243,6 +1260,7 @@ static const struct { const char *name; void (*run)(void); } tests[] = {
     {"yz_canonical", test_canonical},
     {"yz_range_canonical", test_range_canonical},
     {"yz_location_canonical", test_location_canonical},
+    {"yz_is_canonical", test_is_canonical},
 };
 
 int main(int argc, char **argv) {

@@ -75,6 +75,7 @@ const TESTS: &[Test] = &[
     ("yz_canonical", canonical),
     ("yz_range_canonical", range_canonical),
     ("yz_location_canonical", location_canonical),
+    ("yz_is_canonical", is_canonical),
 ];
 
 /// What the wrapper has beside its calls.
@@ -1180,6 +1181,43 @@ fn location_canonical(c: &mut Checks) {
     c.same(write(&[9], 5, main, 0, 0), untouched(0, Error::UnknownLocListsEntry(9)));
     c.same(write(&gnu, 4, dwo, u64::MAX, 16), untouched(16, EOF));
     c.same(write(&[5, 0].repeat(1025), 5, main, 0, 16), untouched(16, Error::TooManyRanges));
+}
+
+fn is_canonical(c: &mut Checks) {
+    let canonical = |bytes: &[u8]| CanonicalList::new(bytes).is_canonical();
+    let entry = |begin: u64, length: &[u8]| join(&[&[7], &begin.to_le_bytes(), length]);
+    let most = join(&[&[0xff; 9], &[1]]);
+    let apart =
+        |n: u64| join(&[&(0..n).flat_map(|i| entry(2 * i, &[1])).collect::<Vec<_>>(), &[0]]);
+    c.same(canonical(TOUCHING_CANONICAL), true);
+    c.same(canonical(&[0]), true);
+    c.same(canonical(&join(&[&entry(0, &[0x7f]), &entry(0x80, &[0x80, 1]), &[0]])), true);
+    c.same(canonical(&join(&[&entry(0, &most), &[0]])), true);
+    c.same(canonical(&apart(1024)), true);
+    for unlike in [
+        // Nothing, no end mark, a byte after it, an end mark alone that is cut off.
+        vec![],
+        TOUCHING_CANONICAL[..10].to_vec(),
+        join(&[TOUCHING_CANONICAL, &[0]]),
+        TOUCHING_CANONICAL[..9].to_vec(),
+        // A length in more bytes than it needs, of 0, past the last address, or of eleven bytes.
+        join(&[&entry(0x10, &[0xa0, 0]), &[0]]),
+        join(&[&entry(0x10, &[0]), &[0]]),
+        join(&[&entry(1, &most), &[0]]),
+        join(&[&entry(0, &[0xff; 10]), &[0]]),
+        // Ranges that touch, overlap or descend; more than a coverage has; one at the tombstones.
+        join(&[&entry(0x10, &[0x10]), &entry(0x20, &[0x10]), &[0]]),
+        join(&[&entry(0x10, &[0x20]), &entry(0x20, &[0x20]), &[0]]),
+        join(&[&entry(0x20, &[1]), &entry(0x10, &[1]), &[0]]),
+        apart(1025),
+        join(&[&entry(u64::MAX - 1, &[1]), &[0]]),
+        // The same range by another kind, and a kind that isn't there.
+        join(&[&[6], &0x10u64.to_le_bytes(), &0x30u64.to_le_bytes(), &[0]]),
+        vec![4, 0x10, 0x30, 0],
+        vec![8],
+    ] {
+        c.same(canonical(&unlike), false);
+    }
 }
 
 // Beside the calls

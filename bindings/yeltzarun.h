@@ -484,6 +484,11 @@ yz_count yz_location_canonical(const uint8_t *section, size_t section_len, const
                                yz_file_type file_type, uint64_t offset, uint64_t base_address, uint8_t *output,
                                size_t output_len);
 
+/* ---- Whether a list is canonical: the answer itself ---- */
+
+/* Whether the bytes, no more and no fewer, are the canonical list of some coverage. */
+bool yz_is_canonical(const uint8_t *bytes, size_t bytes_len);
+
 #ifdef __cplusplus
 }
 #endif

@@ -144,4 +144,9 @@ impl<'a> CanonicalList<'a> {
             ffi::yz_coverage_from_canonical(self.bytes.as_ptr(), self.bytes.len(), begins, ends)
         })
     }
+    /// Whether the bytes, no more and no fewer, are the canonical list of some coverage.
+    pub fn is_canonical(&self) -> bool {
+        // SAFETY: pointer and length are of one slice.
+        unsafe { ffi::yz_is_canonical(self.bytes.as_ptr(), self.bytes.len()) }
+    }
 }

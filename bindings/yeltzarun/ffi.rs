@@ -218,4 +218,6 @@ unsafe extern "C" {
         s: Ptr, n: usize, t: Ptr, m: usize, table_base: u64, encoding: Encoding, file_type: u32,
         offset: u64, base_address: u64, output: *mut u8, len: usize,
     ) -> Answer<u64>;
+
+    pub fn yz_is_canonical(s: Ptr, n: usize) -> bool;
 }
