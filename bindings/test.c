@@ -1,5 +1,6 @@
-/* Each export through the header, on good and on bad input. The expected words are DWARF's and document 01's, worked out by
- * hand. A test has its export's name; --list prints the names. */
+/* Each export through the header, on good and on bad input. The expected values are DWARF's and document 01's, worked out by
+ * hand. A test has its export's name; --list prints the names, --refusals the refusals' numbers and names. It is compiled as
+ * C99, C11 and C++11. */
 #include "yeltzarun.h"
 
 #include <stdio.h>
@@ -21,60 +22,90 @@ static void check(bool holds, int line, const char *what) {
 
 /* What memory holds before a call. */
 #define OLD 0xee
+#define OLD_WORD UINT64_C(0xeeeeeeeeeeeeeeee)
 #define MAX UINT64_MAX
 #define TWO_TO_61 (UINT64_C(1) << 61)
 
-static bool words_are(const uint64_t *got, const uint64_t *expected, size_t n, int line) {
-    bool same = memcmp(got, expected, n * sizeof *got) == 0;
-    size_t i;
-    for (i = 0; !same && i < n; i++)
-        printf("test.c:%d: %s: word %u is %llx, expected %llx\n", line, test, (unsigned)i,
-               (unsigned long long)got[i], (unsigned long long)expected[i]);
-    return same;
+/* An answer's fields in their order, 0 after the last. */
+#define FIELDS 11
+typedef struct fields { uint64_t at[FIELDS]; } fields;
+
+static fields fields_of(yz_result result, yz_refusal refusal, uint64_t value) {
+    fields all;
+    memset(&all, 0, sizeof all);
+    all.at[0] = (uint64_t)result;
+    all.at[1] = (uint64_t)refusal;
+    all.at[2] = value;
+    return all;
 }
 
-/* A call over `out` that gives a code and words; the words in are all old. */
-#define FOUR(call, code, ...)                                                                                        \
+/* `of_TYPE` gives the fields of an answer of that type: those of all answers, then its own. */
+#define FIELDS_OF(type, ...)                                                                                         \
+    static fields of_##type(yz_##type a) {                                                                           \
+        const uint64_t own[] = {__VA_ARGS__};                                                                        \
+        fields all = fields_of(a.result, a.refusal, a.refusal_value);                                                \
+        memcpy(all.at + 3, own, sizeof own);                                                                         \
+        return all;                                                                                                  \
+    }
+#define ENCODING(e) e.version, e.address_size, e.dwarf64, e.big_endian
+#define PART(p) p.offset, p.length
+
+static fields of_done(yz_done a) { return fields_of(a.result, a.refusal, a.refusal_value); }
+FIELDS_OF(number, a.number)
+FIELDS_OF(count, a.count)
+FIELDS_OF(place, a.next)
+FIELDS_OF(read, a.next, a.number)
+FIELDS_OF(split_part, a.next, PART(a.part))
+FIELDS_OF(unit_length, a.next, a.length, a.dwarf64)
+FIELDS_OF(table_header, ENCODING(a.encoding), a.offset, a.length, PART(a.entries))
+FIELDS_OF(lists_header_answer, ENCODING(a.encoding), a.offset_entry_count, a.header_size, PART(a.rest))
+FIELDS_OF(range, a.begin, a.end)
+FIELDS_OF(location, a.begin, a.end, PART(a.expression))
+FIELDS_OF(raw_range, a.entry.kind, a.entry.first, a.entry.second)
+FIELDS_OF(raw_location, a.entry.kind, a.entry.first, a.entry.second, PART(a.entry.expression))
+
+static void same(fields got, const uint64_t *expected, int line, const char *what) {
+    bool all = memcmp(got.at, expected, sizeof got.at) == 0;
+    unsigned i;
+    for (i = 0; !all && i < FIELDS; i++)
+        if (got.at[i] != expected[i])
+            printf("test.c:%d: %s: field %u is %llx, expected %llx\n", line, test, i, (unsigned long long)got.at[i],
+                   (unsigned long long)expected[i]);
+    check(all, line, what);
+}
+
+/* Bytes that become old; the pointer keeps the compiler from seeing to what end. */
+static void make_old(void *bytes, size_t n) { memset(bytes, OLD, n); }
+static void (*volatile old)(void *, size_t) = make_old;
+
+/* A call that answers by a type with these fields; all that follow must be 0. Most compilers have the call write its answer
+ * where the old one was. */
+#define IS(type, call, ...)                                                                                          \
     do {                                                                                                             \
-        yz_words4 out;                                                                                               \
-        const uint64_t expected[4] = {__VA_ARGS__};                                                                  \
-        memset(&out, OLD, sizeof out);                                                                               \
-        check((call) == (code), __LINE__, #call " == " #code);                                                       \
-        check(words_are(out.w, expected, 4, __LINE__), __LINE__, #call);                                             \
+        const uint64_t expected[FIELDS] = {__VA_ARGS__};                                                             \
+        do {                                                                                                         \
+            yz_##type stale;                                                                                         \
+            old(&stale, sizeof stale);                                                                               \
+        } while (0);                                                                                                 \
+        do {                                                                                                         \
+            const yz_##type answer = call;                                                                           \
+            same(of_##type(answer), expected, __LINE__, #call);                                                      \
+        } while (0);                                                                                                 \
     } while (0)
 
-#define EIGHT(call, code, ...)                                                                                       \
-    do {                                                                                                             \
-        yz_words8 out;                                                                                               \
-        const uint64_t expected[8] = {__VA_ARGS__};                                                                  \
-        memset(&out, OLD, sizeof out);                                                                               \
-        check((call) == (code), __LINE__, #call " == " #code);                                                       \
-        check(words_are(out.w, expected, 8, __LINE__), __LINE__, #call);                                             \
-    } while (0)
-
-/* A call over `io`, whose words stay for the next one. */
-#define STEP4(io, call, code, ...)                                                                                   \
-    do {                                                                                                             \
-        const uint64_t expected[4] = {__VA_ARGS__};                                                                  \
-        check((call) == (code), __LINE__, #call " == " #code);                                                       \
-        check(words_are((io)->w, expected, 4, __LINE__), __LINE__, #call);                                           \
-    } while (0)
-
-#define STEP8(io, call, code, ...)                                                                                   \
-    do {                                                                                                             \
-        const uint64_t expected[8] = {__VA_ARGS__};                                                                  \
-        check((call) == (code), __LINE__, #call " == " #code);                                                       \
-        check(words_are((io)->w, expected, 8, __LINE__), __LINE__, #call);                                           \
-    } while (0)
-
-#define DONE YZ_DONE
-#define END YZ_END
-#define REFUSED YZ_REFUSED
-#define EOF_WORDS 0, 0, YZ_UNEXPECTED_EOF, 0
+/* The first fields of an answer. */
+#define DONE YZ_DONE, 0, 0
+#define END YZ_END, 0, 0
+#define COMES_TO_NOTHING YZ_NOTHING, 0, 0
+#define NOT_THERE YZ_NOT_THERE, 0, 0
+#define REFUSED(refusal, value) YZ_REFUSED, refusal, value
+#define CUT_SHORT REFUSED(YZ_UNEXPECTED_EOF, 0)
+#define BAD_SIZE(size) REFUSED(YZ_UNSUPPORTED_ADDRESS_SIZE, size)
+#define TOO_FAR REFUSED(YZ_UNSUPPORTED_OFFSET, 0)
 
 /* A byte string and its length, without the last 0. */
 #define S(bytes) (const uint8_t *)(bytes), sizeof(bytes) - 1
-#define NOTHING NULL, 0
+#define NO_BYTES NULL, 0
 
 /* Document 01's address table, its addresses from 8 on, in both orders. */
 #define TABLE S("\x0c\0\0\0\x05\0\x04\0\x10\0\0\0\x20\0\0\0")
@@ -84,129 +115,244 @@ static bool words_are(const uint64_t *got, const uint64_t *expected, size_t n, i
 #define ONE_TO_EIGHT S("\x01\x02\x03\x04\x05\x06\x07\x08")
 /* Nine bytes of a LEB128 number; the tenth decides. */
 #define NINE "\x80\x80\x80\x80\x80\x80\x80\x80\x80"
-/* Base 1 and the offset there sum to 2^64. */
-#define TOO_FAR S("\xaa\xff\xff\xff\xff\xff\xff\xff\xff")
+/* 2^61 as LEB128: times 8 it is 2^64. */
+#define INDEX_2_61 "\x80\x80\x80\x80\x80\x80\x80\x80\x20"
 /* Document 01's two ranges that touch, and their canonical list and sheet. */
 #define TOUCHING S("\x07\x20\0\0\0\x10\x07\x10\0\0\0\x10\0")
 #define TOUCHING_CANONICAL "\x07\x10\0\0\0\0\0\0\0\x20\0"
 #define TOUCHING_SHEET "\x01\0\x08\0\x10\0\0\0\0\0\0\0\x30\0\0\0\0\0\0"
 
-static const bool LITTLE = false, BIG = true, D32 = false, D64 = true, MAIN = false, SPLIT = true;
+static const bool LITTLE = false, BIG = true;
+static const yz_file_type MAIN = YZ_FILE_MAIN, DWO = YZ_FILE_DWO;
+
+static yz_encoding encoded(uint16_t version, uint8_t address_size, bool dwarf64, uint32_t big_endian) {
+    yz_encoding encoding;
+    encoding.version = version;
+    encoding.address_size = address_size;
+    encoding.dwarf64 = dwarf64;
+    encoding.big_endian = big_endian;
+    return encoding;
+}
+
+/* Of the 32-bit format, in either order, and of the 64-bit format. */
+static yz_encoding little(uint16_t version, uint8_t address_size) { return encoded(version, address_size, false, false); }
+static yz_encoding big(uint16_t version, uint8_t address_size) { return encoded(version, address_size, false, true); }
+static yz_encoding wide(bool big_endian) { return encoded(5, 8, true, big_endian); }
+
+static yz_part part(uint64_t offset, uint64_t length) {
+    yz_part made;
+    made.offset = offset;
+    made.length = length;
+    return made;
+}
+
+/* ---- What the library was compiled for ---- */
+
+/* The type's size, and the offset of a field in it. */
+#define SIZE(type, size) CHECK(sizeof(yz_##type) == (size))
+#define FIELD(type, field, at) CHECK(offsetof(yz_##type, field) == (at))
+/* Every answer begins alike. */
+#define ANSWER(type, size)                                                                                           \
+    do {                                                                                                             \
+        SIZE(type, size);                                                                                            \
+        FIELD(type, result, 0);                                                                                      \
+        FIELD(type, refusal, 4);                                                                                     \
+        FIELD(type, refusal_value, 8);                                                                               \
+    } while (0)
+
+static void layout(void) {
+    SIZE(result, 4);
+    SIZE(refusal, 4);
+    SIZE(file_type, 4);
+    SIZE(section, 4);
+    SIZE(encoding, 8);
+    FIELD(encoding, version, 0);
+    FIELD(encoding, address_size, 2);
+    FIELD(encoding, dwarf64, 3);
+    FIELD(encoding, big_endian, 4);
+    SIZE(part, 16);
+    FIELD(part, offset, 0);
+    FIELD(part, length, 8);
+    SIZE(walk, 24);
+    FIELD(walk, at, 0);
+    FIELD(walk, base_address, 8);
+    FIELD(walk, split, 16);
+    SIZE(bounds, 8 * 1024);
+    SIZE(range_entry, 24);
+    FIELD(range_entry, kind, 0);
+    FIELD(range_entry, first, 8);
+    FIELD(range_entry, second, 16);
+    SIZE(location_entry, 40);
+    FIELD(location_entry, kind, 0);
+    FIELD(location_entry, first, 8);
+    FIELD(location_entry, second, 16);
+    FIELD(location_entry, expression, 24);
+    ANSWER(done, 16);
+    ANSWER(number, 24);
+    FIELD(number, number, 16);
+    ANSWER(count, 24);
+    FIELD(count, count, 16);
+    ANSWER(place, 24);
+    FIELD(place, next, 16);
+    ANSWER(read, 32);
+    FIELD(read, next, 16);
+    FIELD(read, number, 24);
+    ANSWER(split_part, 40);
+    FIELD(split_part, next, 16);
+    FIELD(split_part, part, 24);
+    ANSWER(unit_length, 40);
+    FIELD(unit_length, next, 16);
+    FIELD(unit_length, length, 24);
+    FIELD(unit_length, dwarf64, 32);
+    ANSWER(table_header, 56);
+    FIELD(table_header, encoding, 16);
+    FIELD(table_header, offset, 24);
+    FIELD(table_header, length, 32);
+    FIELD(table_header, entries, 40);
+    ANSWER(lists_header_answer, 56);
+    FIELD(lists_header_answer, encoding, 16);
+    FIELD(lists_header_answer, offset_entry_count, 24);
+    FIELD(lists_header_answer, header_size, 32);
+    FIELD(lists_header_answer, rest, 40);
+    ANSWER(range, 32);
+    FIELD(range, begin, 16);
+    FIELD(range, end, 24);
+    ANSWER(location, 48);
+    FIELD(location, begin, 16);
+    FIELD(location, end, 24);
+    FIELD(location, expression, 32);
+    ANSWER(raw_range, 40);
+    FIELD(raw_range, entry, 16);
+    ANSWER(raw_location, 56);
+    FIELD(raw_location, entry, 16);
+}
+
+static void test_version(void) {
+    CHECK(yz_version() == YZ_VERSION);
+    layout();
+    CHECK(strcmp(yz_refusal_name(YZ_NO_REFUSAL), "") == 0);
+    CHECK(strcmp(yz_refusal_name((yz_refusal)13), "") == 0);
+}
 
 /* ---- Reads ---- */
 
+#define READ(call, ...) IS(read, call, __VA_ARGS__)
+
 static void test_uleb128(void) {
-    FOUR(yz_uleb128(S("\xe5\x8e\x26\xff"), 0, &out), DONE, 3, 0, 624485, 0);
-    FOUR(yz_uleb128(S("\xe5\x8e\x26\xff"), 2, &out), DONE, 3, 0, 0x26, 0);
-    FOUR(yz_uleb128(S("\x80\0"), 0, &out), DONE, 2, 0, 0, 0);
-    FOUR(yz_uleb128(S(NINE "\x01"), 0, &out), DONE, 10, 0, UINT64_C(1) << 63, 0);
-    FOUR(yz_uleb128(S(NINE "\0"), 0, &out), DONE, 10, 0, 0, 0);
-    FOUR(yz_uleb128(S(NINE "\x02"), 0, &out), REFUSED, 0, 0, YZ_BAD_UNSIGNED_LEB128, 0);
-    FOUR(yz_uleb128(S(NINE), 0, &out), REFUSED, EOF_WORDS);
-    FOUR(yz_uleb128(NOTHING, 0, &out), REFUSED, EOF_WORDS);
-    FOUR(yz_uleb128(S("\x01"), MAX, &out), REFUSED, EOF_WORDS);
+    READ(yz_uleb128(S("\xe5\x8e\x26\xff"), 0), DONE, 3, 624485);
+    READ(yz_uleb128(S("\xe5\x8e\x26\xff"), 2), DONE, 3, 0x26);
+    READ(yz_uleb128(S("\x80\0"), 0), DONE, 2, 0);
+    READ(yz_uleb128(S(NINE "\x01"), 0), DONE, 10, UINT64_C(1) << 63);
+    READ(yz_uleb128(S(NINE "\0"), 0), DONE, 10, 0);
+    READ(yz_uleb128(S(NINE "\x02"), 0), REFUSED(YZ_BAD_UNSIGNED_LEB128, 0));
+    READ(yz_uleb128(S(NINE), 0), CUT_SHORT);
+    READ(yz_uleb128(NO_BYTES, 0), CUT_SHORT);
+    READ(yz_uleb128(S("\x01"), MAX), CUT_SHORT);
 }
 
 static void test_read_u8(void) {
-    FOUR(yz_read_u8(S("\xab\xcd"), 1, &out), DONE, 2, 0, 0xcd, 0);
-    FOUR(yz_read_u8(S("\xab\xcd"), 2, &out), REFUSED, EOF_WORDS);
-    FOUR(yz_read_u8(S("\xab\xcd"), MAX, &out), REFUSED, EOF_WORDS);
-    FOUR(yz_read_u8(NOTHING, 0, &out), REFUSED, EOF_WORDS);
+    READ(yz_read_u8(S("\xab\xcd"), 1), DONE, 2, 0xcd);
+    READ(yz_read_u8(S("\xab\xcd"), 2), CUT_SHORT);
+    READ(yz_read_u8(S("\xab\xcd"), MAX), CUT_SHORT);
+    READ(yz_read_u8(NO_BYTES, 0), CUT_SHORT);
 }
 
 static void test_read_u16(void) {
-    FOUR(yz_read_u16(S("\x01\x02\x03"), 1, LITTLE, &out), DONE, 3, 0, 0x0302, 0);
-    FOUR(yz_read_u16(S("\x01\x02\x03"), 0, BIG, &out), DONE, 2, 0, 0x0102, 0);
-    FOUR(yz_read_u16(S("\x01\x02\x03"), 2, BIG, &out), REFUSED, EOF_WORDS);
-    FOUR(yz_read_u16(S("\x01\x02\x03"), MAX, LITTLE, &out), REFUSED, EOF_WORDS);
-    FOUR(yz_read_u16(NOTHING, 0, BIG, &out), REFUSED, EOF_WORDS);
+    READ(yz_read_u16(S("\x01\x02\x03"), LITTLE, 1), DONE, 3, 0x0302);
+    READ(yz_read_u16(S("\x01\x02\x03"), BIG, 0), DONE, 2, 0x0102);
+    READ(yz_read_u16(S("\x01\x02\x03"), BIG, 2), CUT_SHORT);
+    READ(yz_read_u16(S("\x01\x02\x03"), LITTLE, MAX), CUT_SHORT);
+    READ(yz_read_u16(NO_BYTES, BIG, 0), CUT_SHORT);
 }
 
 static void test_read_u32(void) {
-    FOUR(yz_read_u32(ONE_TO_EIGHT, 1, LITTLE, &out), DONE, 5, 0, 0x05040302, 0);
-    FOUR(yz_read_u32(ONE_TO_EIGHT, 4, BIG, &out), DONE, 8, 0, 0x05060708, 0);
-    FOUR(yz_read_u32(ONE_TO_EIGHT, 5, BIG, &out), REFUSED, EOF_WORDS);
-    FOUR(yz_read_u32(ONE_TO_EIGHT, MAX - 3, BIG, &out), REFUSED, EOF_WORDS);
-    FOUR(yz_read_u32(NOTHING, 0, LITTLE, &out), REFUSED, EOF_WORDS);
+    READ(yz_read_u32(ONE_TO_EIGHT, LITTLE, 1), DONE, 5, 0x05040302);
+    READ(yz_read_u32(ONE_TO_EIGHT, BIG, 4), DONE, 8, 0x05060708);
+    READ(yz_read_u32(ONE_TO_EIGHT, BIG, 5), CUT_SHORT);
+    READ(yz_read_u32(ONE_TO_EIGHT, BIG, MAX - 3), CUT_SHORT);
+    READ(yz_read_u32(NO_BYTES, LITTLE, 0), CUT_SHORT);
 }
 
 static void test_read_u64(void) {
-    FOUR(yz_read_u64(ONE_TO_EIGHT, 0, LITTLE, &out), DONE, 8, 0, UINT64_C(0x0807060504030201), 0);
-    FOUR(yz_read_u64(ONE_TO_EIGHT, 0, BIG, &out), DONE, 8, 0, UINT64_C(0x0102030405060708), 0);
-    FOUR(yz_read_u64(ONE_TO_EIGHT, 1, BIG, &out), REFUSED, EOF_WORDS);
-    FOUR(yz_read_u64(ONE_TO_EIGHT, MAX - 7, LITTLE, &out), REFUSED, EOF_WORDS);
-    FOUR(yz_read_u64(NOTHING, 0, LITTLE, &out), REFUSED, EOF_WORDS);
+    READ(yz_read_u64(ONE_TO_EIGHT, LITTLE, 0), DONE, 8, UINT64_C(0x0807060504030201));
+    READ(yz_read_u64(ONE_TO_EIGHT, BIG, 0), DONE, 8, UINT64_C(0x0102030405060708));
+    READ(yz_read_u64(ONE_TO_EIGHT, BIG, 1), CUT_SHORT);
+    READ(yz_read_u64(ONE_TO_EIGHT, LITTLE, MAX - 7), CUT_SHORT);
+    READ(yz_read_u64(NO_BYTES, LITTLE, 0), CUT_SHORT);
 }
 
 static void test_read_address(void) {
-    FOUR(yz_read_address(ONE_TO_EIGHT, 7, 1, LITTLE, &out), DONE, 8, 0, 8, 0);
-    FOUR(yz_read_address(ONE_TO_EIGHT, 0, 2, LITTLE, &out), DONE, 2, 0, 0x0201, 0);
-    FOUR(yz_read_address(ONE_TO_EIGHT, 4, 4, BIG, &out), DONE, 8, 0, 0x05060708, 0);
-    FOUR(yz_read_address(ONE_TO_EIGHT, 0, 8, BIG, &out), DONE, 8, 0, UINT64_C(0x0102030405060708), 0);
-    FOUR(yz_read_address(ONE_TO_EIGHT, 5, 4, BIG, &out), REFUSED, EOF_WORDS);
-    FOUR(yz_read_address(ONE_TO_EIGHT, MAX, 1, BIG, &out), REFUSED, EOF_WORDS);
-    FOUR(yz_read_address(ONE_TO_EIGHT, 0, 3, LITTLE, &out), REFUSED, 0, 0, YZ_UNSUPPORTED_ADDRESS_SIZE, 3);
-    FOUR(yz_read_address(NOTHING, MAX, 255, LITTLE, &out), REFUSED, 0, 0, YZ_UNSUPPORTED_ADDRESS_SIZE, 255);
-    FOUR(yz_read_address(NOTHING, 0, 0, LITTLE, &out), REFUSED, 0, 0, YZ_UNSUPPORTED_ADDRESS_SIZE, 0);
+    READ(yz_read_address(ONE_TO_EIGHT, little(5, 1), 7), DONE, 8, 8);
+    READ(yz_read_address(ONE_TO_EIGHT, little(5, 2), 0), DONE, 2, 0x0201);
+    READ(yz_read_address(ONE_TO_EIGHT, big(4, 4), 4), DONE, 8, 0x05060708);
+    READ(yz_read_address(ONE_TO_EIGHT, wide(BIG), 0), DONE, 8, UINT64_C(0x0102030405060708));
+    READ(yz_read_address(ONE_TO_EIGHT, encoded(0, 4, true, UINT32_MAX), 4), DONE, 8, 0x05060708);
+    READ(yz_read_address(ONE_TO_EIGHT, encoded(0, 4, false, 0x100), 4), DONE, 8, 0x05060708);
+    READ(yz_read_address(ONE_TO_EIGHT, big(5, 4), 5), CUT_SHORT);
+    READ(yz_read_address(ONE_TO_EIGHT, big(5, 1), MAX), CUT_SHORT);
+    READ(yz_read_address(ONE_TO_EIGHT, little(5, 3), 0), BAD_SIZE(3));
+    READ(yz_read_address(NO_BYTES, little(5, 255), MAX), BAD_SIZE(255));
+    READ(yz_read_address(NO_BYTES, little(5, 0), 0), BAD_SIZE(0));
 }
 
 static void test_read_address_size(void) {
-    FOUR(yz_read_address_size(S("\x01\x02\x04\x08"), 0, &out), DONE, 1, 0, 1, 0);
-    FOUR(yz_read_address_size(S("\x01\x02\x04\x08"), 3, &out), DONE, 4, 0, 8, 0);
-    FOUR(yz_read_address_size(S("\x03"), 0, &out), REFUSED, 0, 0, YZ_UNSUPPORTED_ADDRESS_SIZE, 3);
-    FOUR(yz_read_address_size(S("\0"), 0, &out), REFUSED, 0, 0, YZ_UNSUPPORTED_ADDRESS_SIZE, 0);
-    FOUR(yz_read_address_size(S("\x08"), 1, &out), REFUSED, EOF_WORDS);
-    FOUR(yz_read_address_size(S("\x08"), MAX, &out), REFUSED, EOF_WORDS);
-    FOUR(yz_read_address_size(NOTHING, 0, &out), REFUSED, EOF_WORDS);
+    READ(yz_read_address_size(S("\x01\x02\x04\x08"), 0), DONE, 1, 1);
+    READ(yz_read_address_size(S("\x01\x02\x04\x08"), 3), DONE, 4, 8);
+    READ(yz_read_address_size(S("\x03"), 0), BAD_SIZE(3));
+    READ(yz_read_address_size(S("\0"), 0), BAD_SIZE(0));
+    READ(yz_read_address_size(S("\x08"), 1), CUT_SHORT);
+    READ(yz_read_address_size(S("\x08"), MAX), CUT_SHORT);
+    READ(yz_read_address_size(NO_BYTES, 0), CUT_SHORT);
 }
 
 static void test_read_offset(void) {
-    FOUR(yz_read_offset(ONE_TO_EIGHT, 4, D32, LITTLE, &out), DONE, 8, 0, 0x08070605, 0);
-    FOUR(yz_read_offset(ONE_TO_EIGHT, 0, D64, BIG, &out), DONE, 8, 0, UINT64_C(0x0102030405060708), 0);
-    FOUR(yz_read_offset(ONE_TO_EIGHT, 5, D32, LITTLE, &out), REFUSED, EOF_WORDS);
-    FOUR(yz_read_offset(ONE_TO_EIGHT, 1, D64, LITTLE, &out), REFUSED, EOF_WORDS);
-    FOUR(yz_read_offset(ONE_TO_EIGHT, MAX, D32, LITTLE, &out), REFUSED, EOF_WORDS);
-    FOUR(yz_read_offset(NOTHING, 0, D64, LITTLE, &out), REFUSED, EOF_WORDS);
+    READ(yz_read_offset(ONE_TO_EIGHT, little(5, 8), 4), DONE, 8, 0x08070605);
+    READ(yz_read_offset(ONE_TO_EIGHT, encoded(0, 3, true, BIG), 0), DONE, 8, UINT64_C(0x0102030405060708));
+    READ(yz_read_offset(ONE_TO_EIGHT, little(5, 8), 5), CUT_SHORT);
+    READ(yz_read_offset(ONE_TO_EIGHT, wide(LITTLE), 1), CUT_SHORT);
+    READ(yz_read_offset(ONE_TO_EIGHT, little(5, 8), MAX), CUT_SHORT);
+    READ(yz_read_offset(NO_BYTES, wide(LITTLE), 0), CUT_SHORT);
 }
 
+#define LENGTH(call, ...) IS(unit_length, call, __VA_ARGS__)
+
 static void test_initial_length(void) {
-    FOUR(yz_initial_length(TABLE, 0, LITTLE, &out), DONE, 4, 0, 12, 0);
-    FOUR(yz_initial_length(BIG_TABLE, 0, BIG, &out), DONE, 4, 0, 12, 0);
-    FOUR(yz_initial_length(S("\0\xef\xff\xff\xff"), 1, LITTLE, &out), DONE, 5, 0, 0xffffffef, 0);
-    FOUR(yz_initial_length(S("\xff\xff\xff\xff\0\0\0\0\0\0\0\x09"), 0, BIG, &out), DONE, 12, 0, 9, 1);
-    FOUR(yz_initial_length(S("\xf0\xff\xff\xff"), 0, LITTLE, &out), REFUSED, 0, 0, YZ_UNKNOWN_RESERVED_LENGTH,
-         0xfffffff0);
-    FOUR(yz_initial_length(S("\xff\xff\xff\xfe"), 0, BIG, &out), REFUSED, 0, 0, YZ_UNKNOWN_RESERVED_LENGTH, 0xfffffffe);
-    FOUR(yz_initial_length(S("\xff\xff\xff\xff\0\0\0\0\0\0\0"), 0, BIG, &out), REFUSED, EOF_WORDS);
-    FOUR(yz_initial_length(TABLE, MAX, LITTLE, &out), REFUSED, EOF_WORDS);
-    FOUR(yz_initial_length(NOTHING, 0, LITTLE, &out), REFUSED, EOF_WORDS);
+    LENGTH(yz_initial_length(TABLE, LITTLE, 0), DONE, 4, 12, 0);
+    LENGTH(yz_initial_length(BIG_TABLE, BIG, 0), DONE, 4, 12, 0);
+    LENGTH(yz_initial_length(S("\0\xef\xff\xff\xff"), LITTLE, 1), DONE, 5, 0xffffffef, 0);
+    LENGTH(yz_initial_length(S("\xff\xff\xff\xff\0\0\0\0\0\0\0\x09"), BIG, 0), DONE, 12, 9, 1);
+    LENGTH(yz_initial_length(S("\xf0\xff\xff\xff"), LITTLE, 0), REFUSED(YZ_UNKNOWN_RESERVED_LENGTH, 0xfffffff0));
+    LENGTH(yz_initial_length(S("\xff\xff\xff\xfe"), BIG, 0), REFUSED(YZ_UNKNOWN_RESERVED_LENGTH, 0xfffffffe));
+    LENGTH(yz_initial_length(S("\xff\xff\xff\xff\0\0\0\0\0\0\0"), BIG, 0), CUT_SHORT);
+    LENGTH(yz_initial_length(TABLE, LITTLE, MAX), CUT_SHORT);
+    LENGTH(yz_initial_length(NO_BYTES, LITTLE, 0), CUT_SHORT);
 }
 
 static void test_skip(void) {
-    FOUR(yz_skip(S("abc"), 1, 2, &out), DONE, 3, 0, 0, 0);
-    FOUR(yz_skip(NOTHING, 0, 0, &out), DONE, 0, 0, 0, 0);
-    FOUR(yz_skip(S("abc"), 1, 3, &out), REFUSED, EOF_WORDS);
-    FOUR(yz_skip(S("abc"), 1, MAX, &out), REFUSED, EOF_WORDS);
-    FOUR(yz_skip(S("abc"), MAX, 1, &out), REFUSED, EOF_WORDS);
-    FOUR(yz_skip(S("abc"), MAX, MAX, &out), REFUSED, EOF_WORDS);
-    FOUR(yz_skip(S("abc"), 4, 0, &out), REFUSED, EOF_WORDS);
+    IS(place, yz_skip(S("abc"), 1, 2), DONE, 3);
+    IS(place, yz_skip(NO_BYTES, 0, 0), DONE, 0);
+    IS(place, yz_skip(S("abc"), 1, 3), CUT_SHORT);
+    IS(place, yz_skip(S("abc"), 1, MAX), CUT_SHORT);
+    IS(place, yz_skip(S("abc"), MAX, 1), CUT_SHORT);
+    IS(place, yz_skip(S("abc"), MAX, MAX), CUT_SHORT);
+    IS(place, yz_skip(S("abc"), 4, 0), CUT_SHORT);
 }
 
 static void test_split(void) {
-    FOUR(yz_split(S("abcd"), 1, 2, &out), DONE, 3, 0, 1, 2);
-    FOUR(yz_split(S("abcd"), 4, 0, &out), DONE, 4, 0, 4, 0);
-    FOUR(yz_split(S("abcd"), 1, 4, &out), REFUSED, EOF_WORDS);
-    FOUR(yz_split(S("abcd"), 2, MAX - 1, &out), REFUSED, EOF_WORDS);
-    FOUR(yz_split(NOTHING, 0, 1, &out), REFUSED, EOF_WORDS);
+    IS(split_part, yz_split(S("abcd"), 1, 2), DONE, 3, 1, 2);
+    IS(split_part, yz_split(S("abcd"), 4, 0), DONE, 4, 4, 0);
+    IS(split_part, yz_split(S("abcd"), 1, 4), CUT_SHORT);
+    IS(split_part, yz_split(S("abcd"), 2, MAX - 1), CUT_SHORT);
+    IS(split_part, yz_split(NO_BYTES, 0, 1), CUT_SHORT);
 }
 
 static void test_truncate(void) {
-    FOUR(yz_truncate(S("abcd"), 1, 2, &out), DONE, 1, 0, 3, 0);
-    FOUR(yz_truncate(S("abcd"), 1, 3, &out), DONE, 1, 0, 4, 0);
-    FOUR(yz_truncate(S("abcd"), 1, 4, &out), REFUSED, EOF_WORDS);
-    FOUR(yz_truncate(S("abcd"), 1, MAX, &out), REFUSED, EOF_WORDS);
-    FOUR(yz_truncate(S("abcd"), MAX, 1, &out), REFUSED, EOF_WORDS);
-    FOUR(yz_truncate(NOTHING, 0, 0, &out), DONE, 0, 0, 0, 0);
+    IS(number, yz_truncate(S("abcd"), 1, 2), DONE, 3);
+    IS(number, yz_truncate(S("abcd"), 1, 3), DONE, 4);
+    IS(number, yz_truncate(S("abcd"), 1, 4), CUT_SHORT);
+    IS(number, yz_truncate(S("abcd"), 1, MAX), CUT_SHORT);
+    IS(number, yz_truncate(S("abcd"), MAX, 1), CUT_SHORT);
+    IS(number, yz_truncate(NO_BYTES, 0, 0), DONE, 0);
 }
 
 /* ---- Addresses ---- */
@@ -241,432 +387,511 @@ static void test_ones_sized(void) {
 
 /* ---- Tables and headers ---- */
 
+#define ADDRESS(table, base, encoding, index, ...)                                                                   \
+    IS(number, yz_get_address(table, base, encoding, index), __VA_ARGS__)
+
 static void test_get_address(void) {
-    FOUR(yz_get_address(TABLE, 4, 8, 0, LITTLE, &out), DONE, 0, 0, 0x10, 0);
-    FOUR(yz_get_address(TABLE, 4, 8, 1, LITTLE, &out), DONE, 0, 0, 0x20, 0);
-    FOUR(yz_get_address(BIG_TABLE, 4, 8, 1, BIG, &out), DONE, 0, 0, 0x20, 0);
-    FOUR(yz_get_address(TABLE, 4, 8, 2, LITTLE, &out), REFUSED, EOF_WORDS);
-    FOUR(yz_get_address(TABLE, 4, MAX, 0, LITTLE, &out), REFUSED, EOF_WORDS);
-    FOUR(yz_get_address(TABLE, 8, 17, TWO_TO_61, LITTLE, &out), REFUSED, EOF_WORDS);
-    FOUR(yz_get_address(TABLE, 8, 0, TWO_TO_61, LITTLE, &out), REFUSED, 0, 0, YZ_UNSUPPORTED_OFFSET, 0);
-    FOUR(yz_get_address(TABLE, 255, 0, MAX, LITTLE, &out), REFUSED, 0, 0, YZ_UNSUPPORTED_OFFSET, 0);
-    FOUR(yz_get_address(TABLE, 1, 0, MAX, LITTLE, &out), REFUSED, EOF_WORDS);
-    FOUR(yz_get_address(TABLE, 3, 8, 0, LITTLE, &out), REFUSED, 0, 0, YZ_UNSUPPORTED_ADDRESS_SIZE, 3);
-    FOUR(yz_get_address(NOTHING, 0, 0, MAX, LITTLE, &out), REFUSED, 0, 0, YZ_UNSUPPORTED_ADDRESS_SIZE, 0);
-    FOUR(yz_get_address(NOTHING, 4, 0, 0, LITTLE, &out), REFUSED, EOF_WORDS);
+    ADDRESS(TABLE, 8, little(5, 4), 0, DONE, 0x10);
+    ADDRESS(TABLE, 8, little(5, 4), 1, DONE, 0x20);
+    ADDRESS(BIG_TABLE, 8, big(4, 4), 1, DONE, 0x20);
+    /* The table at 0 has a header and two addresses; its row 2 is the first address. */
+    ADDRESS(TABLE, 0, little(5, 4), 2, DONE, 0x10);
+    ADDRESS(TABLE, 8, little(5, 4), 2, CUT_SHORT);
+    ADDRESS(TABLE, MAX, little(5, 4), 0, CUT_SHORT);
+    ADDRESS(TABLE, 17, little(5, 8), TWO_TO_61, CUT_SHORT);
+    ADDRESS(TABLE, 0, little(5, 8), TWO_TO_61, TOO_FAR);
+    ADDRESS(TABLE, 0, little(5, 255), MAX, TOO_FAR);
+    ADDRESS(TABLE, 0, little(5, 1), MAX, CUT_SHORT);
+    ADDRESS(TABLE, 8, little(5, 3), 0, BAD_SIZE(3));
+    ADDRESS(NO_BYTES, 0, little(5, 0), MAX, BAD_SIZE(0));
+    ADDRESS(NO_BYTES, 0, little(5, 4), 0, CUT_SHORT);
 }
+
+/* The next header from a place, and the place then. */
+#define HEADER(section, order, from, to, ...)                                                                        \
+    do {                                                                                                             \
+        uint64_t at = from;                                                                                          \
+        IS(table_header, yz_table_next(section, order, &at), __VA_ARGS__);                                           \
+        check(at == (to), __LINE__, "at == " #to);                                                                   \
+    } while (0)
 
 static void test_table_next(void) {
-    yz_words8 io;
-    memset(&io, OLD, sizeof io);
-    io.w[0] = 0;
-    STEP8(&io, yz_table_next(TABLE, LITTLE, &io), DONE, 16, 5, 0, 12, 0, 4, 8, 8);
-    STEP8(&io, yz_table_next(TABLE, LITTLE, &io), END, 16, 0, 0, 0, 0, 0, 0, 0);
-    io.w[0] = 1;
-    STEP8(&io, yz_table_next(S("\0\xff\xff\xff\xff\0\0\0\0\0\0\0\x0c\0\x05\x08\0\x01\x02\x03\x04\x05\x06\x07\x08"), BIG, &io),
-          DONE, 25, 5, 1, 12, 1, 8, 17, 8);
-    io.w[0] = 0;
-    STEP8(&io, yz_table_next(S("\x08\0\0\0\x04\0\x04\0\0\0\0\0"), LITTLE, &io), REFUSED, 12, 0, YZ_UNKNOWN_VERSION, 4, 0,
-          0, 0, 0);
-    STEP8(&io, yz_table_next(S("\x08\0\0\0\x04\0\x04\0\0\0\0\0"), LITTLE, &io), END, 12, 0, 0, 0, 0, 0, 0, 0);
-    io.w[0] = 0;
-    STEP8(&io, yz_table_next(S("\x04\0\0\0\x05\0\x03\0"), LITTLE, &io), REFUSED, 8, 0, YZ_UNSUPPORTED_ADDRESS_SIZE, 3, 0,
-          0, 0, 0);
-    io.w[0] = 0;
-    STEP8(&io, yz_table_next(S("\x04\0\0\0\x05\0\x04\x01"), LITTLE, &io), REFUSED, 8, 0, YZ_UNSUPPORTED_SEGMENT_SIZE, 1,
-          0, 0, 0, 0);
-    io.w[0] = 0;
-    STEP8(&io, yz_table_next(S("\xf0\xff\xff\xff"), LITTLE, &io), REFUSED, 4, 0, YZ_UNKNOWN_RESERVED_LENGTH, 0xfffffff0,
-          0, 0, 0, 0);
-    io.w[0] = 0;
-    STEP8(&io, yz_table_next(S("\x05\0\0\0\x05\0\x04\0"), LITTLE, &io), REFUSED, 8, 0, YZ_UNEXPECTED_EOF, 0, 0, 0, 0, 0);
-    io.w[0] = MAX;
-    STEP8(&io, yz_table_next(TABLE, LITTLE, &io), END, MAX, 0, 0, 0, 0, 0, 0, 0);
-    io.w[0] = 0;
-    STEP8(&io, yz_table_next(NOTHING, LITTLE, &io), END, 0, 0, 0, 0, 0, 0, 0, 0);
+    HEADER(TABLE, LITTLE, 0, 16, DONE, 5, 4, 0, 0, 0, 12, 8, 8);
+    HEADER(TABLE, LITTLE, 16, 16, END);
+    HEADER(BIG_TABLE, BIG, 0, 16, DONE, 5, 4, 0, 1, 0, 12, 8, 8);
+    HEADER(S("\0\xff\xff\xff\xff\0\0\0\0\0\0\0\x0c\0\x05\x08\0\x01\x02\x03\x04\x05\x06\x07\x08"), BIG, 1, 25, DONE, 5, 8,
+           1, 1, 1, 12, 17, 8);
+#define OF_VERSION_4 S("\x08\0\0\0\x04\0\x04\0\0\0\0\0")
+    HEADER(OF_VERSION_4, LITTLE, 0, 12, REFUSED(YZ_UNKNOWN_VERSION, 4));
+    HEADER(OF_VERSION_4, LITTLE, 12, 12, END);
+#undef OF_VERSION_4
+    HEADER(S("\x04\0\0\0\x05\0\x03\0"), LITTLE, 0, 8, BAD_SIZE(3));
+    HEADER(S("\x04\0\0\0\x05\0\x04\x01"), LITTLE, 0, 8, REFUSED(YZ_UNSUPPORTED_SEGMENT_SIZE, 1));
+    HEADER(S("\xf0\xff\xff\xff"), LITTLE, 0, 4, REFUSED(YZ_UNKNOWN_RESERVED_LENGTH, 0xfffffff0));
+    HEADER(S("\x05\0\0\0\x05\0\x04\0"), LITTLE, 0, 8, CUT_SHORT);
+    HEADER(TABLE, LITTLE, MAX, MAX, END);
+    HEADER(NO_BYTES, LITTLE, 0, 0, END);
 }
 
-static yz_words4 walk4(uint64_t first, uint64_t second) {
-    yz_words4 io;
-    memset(&io, OLD, sizeof io);
-    io.w[0] = first;
-    io.w[1] = second;
-    return io;
-}
+/* The next address of what is left, and what is left then. */
+#define ENTRY(table, encoding, offset_in, length_in, offset_out, length_out, ...)                                    \
+    do {                                                                                                             \
+        yz_part left = part(offset_in, length_in);                                                                   \
+        IS(number, yz_table_entry_next(table, encoding, &left), __VA_ARGS__);                                        \
+        check(left.offset == (offset_out) && left.length == (length_out), __LINE__, #offset_out ", " #length_out);   \
+    } while (0)
 
 static void test_table_entry_next(void) {
-    yz_words4 io = walk4(8, 8);
-    STEP4(&io, yz_table_entry_next(TABLE, 4, LITTLE, &io), DONE, 12, 4, 0x10, 0);
-    STEP4(&io, yz_table_entry_next(TABLE, 4, LITTLE, &io), DONE, 16, 0, 0x20, 0);
-    STEP4(&io, yz_table_entry_next(TABLE, 4, LITTLE, &io), END, 16, 0, 0, 0);
-    io = walk4(12, 4);
-    STEP4(&io, yz_table_entry_next(BIG_TABLE, 4, BIG, &io), DONE, 16, 0, 0x20, 0);
-    io = walk4(8, 6);
-    STEP4(&io, yz_table_entry_next(TABLE, 8, LITTLE, &io), REFUSED, 14, 0, YZ_UNEXPECTED_EOF, 0);
-    STEP4(&io, yz_table_entry_next(TABLE, 8, LITTLE, &io), END, 14, 0, 0, 0);
-    io = walk4(8, 8);
-    STEP4(&io, yz_table_entry_next(TABLE, 3, LITTLE, &io), REFUSED, 16, 0, YZ_UNSUPPORTED_ADDRESS_SIZE, 3);
-    io = walk4(MAX, 2);
-    STEP4(&io, yz_table_entry_next(TABLE, 4, LITTLE, &io), END, MAX, 2, 0, 0);
-    io = walk4(0, MAX);
-    STEP4(&io, yz_table_entry_next(TABLE, 4, LITTLE, &io), END, 0, MAX, 0, 0);
-    io = walk4(0, 0);
-    STEP4(&io, yz_table_entry_next(NOTHING, 4, LITTLE, &io), END, 0, 0, 0, 0);
+    ENTRY(TABLE, little(5, 4), 8, 8, 12, 4, DONE, 0x10);
+    ENTRY(TABLE, little(5, 4), 12, 4, 16, 0, DONE, 0x20);
+    ENTRY(TABLE, little(5, 4), 16, 0, 16, 0, END);
+    ENTRY(BIG_TABLE, big(5, 4), 12, 4, 16, 0, DONE, 0x20);
+    ENTRY(TABLE, little(5, 8), 8, 6, 14, 0, CUT_SHORT);
+    ENTRY(TABLE, little(5, 8), 14, 0, 14, 0, END);
+    ENTRY(TABLE, little(5, 3), 8, 8, 16, 0, BAD_SIZE(3));
+    ENTRY(TABLE, little(5, 4), MAX, 2, MAX, 2, END);
+    ENTRY(TABLE, little(5, 4), 0, MAX, 0, MAX, END);
+    ENTRY(NO_BYTES, little(5, 4), 0, 0, 0, 0, END);
 }
+
+#define LISTS_HEADER(section, order, at, ...)                                                                        \
+    IS(lists_header_answer, yz_lists_header(section, order, at), __VA_ARGS__)
 
 static void test_lists_header(void) {
-    EIGHT(yz_lists_header(LISTS, 0, LITTLE, &out), DONE, 0, 5, 0, 4, 2, 12, 12, 10);
-    EIGHT(yz_lists_header(S("\xaa\0\0\0\x08\0\x05\x08\0\0\0\0\x01"), 1, BIG, &out), DONE, 0, 5, 0, 8, 1, 12, 13, 0);
-    EIGHT(yz_lists_header(S("\xff\xff\xff\xff\x09\0\0\0\0\0\0\0\x05\0\x08\0\x03\0\0\0\xaa\xbb"), 0, LITTLE, &out), DONE, 0,
-          5, 1, 8, 3, 20, 20, 1);
-    EIGHT(yz_lists_header(S("\x08\0\0\0\x04\0\x04\0\0\0\0\0"), 0, LITTLE, &out), REFUSED, 0, 0, YZ_UNKNOWN_VERSION, 4, 0,
-          0, 0, 0);
-    EIGHT(yz_lists_header(S("\x08\0\0\0\x05\0\x03\0\0\0\0\0"), 0, LITTLE, &out), REFUSED, 0, 0,
-          YZ_UNSUPPORTED_ADDRESS_SIZE, 3, 0, 0, 0, 0);
-    EIGHT(yz_lists_header(S("\x08\0\0\0\x05\0\x04\x01\0\0\0\0"), 0, LITTLE, &out), REFUSED, 0, 0,
-          YZ_UNSUPPORTED_SEGMENT_SIZE, 1, 0, 0, 0, 0);
-    EIGHT(yz_lists_header(S("\xf0\xff\xff\xff"), 0, LITTLE, &out), REFUSED, 0, 0, YZ_UNKNOWN_RESERVED_LENGTH, 0xfffffff0, 0,
-          0, 0, 0);
-    EIGHT(yz_lists_header(S("\x07\0\0\0\x05\0\x04\0\0\0\0\0"), 0, LITTLE, &out), REFUSED, EOF_WORDS, 0, 0, 0, 0);
-    EIGHT(yz_lists_header(LISTS, MAX, LITTLE, &out), REFUSED, EOF_WORDS, 0, 0, 0, 0);
-    EIGHT(yz_lists_header(NOTHING, 0, LITTLE, &out), REFUSED, EOF_WORDS, 0, 0, 0, 0);
+    LISTS_HEADER(LISTS, LITTLE, 0, DONE, 5, 4, 0, 0, 2, 12, 12, 10);
+    LISTS_HEADER(S("\xaa\0\0\0\x08\0\x05\x08\0\0\0\0\x01"), BIG, 1, DONE, 5, 8, 0, 1, 1, 12, 13, 0);
+    LISTS_HEADER(S("\xff\xff\xff\xff\x09\0\0\0\0\0\0\0\x05\0\x08\0\x03\0\0\0\xaa\xbb"), LITTLE, 0, DONE, 5, 8, 1, 0, 3, 20,
+                 20, 1);
+    LISTS_HEADER(S("\x08\0\0\0\x05\0\x02\0\xff\xff\xff\xff"), LITTLE, 0, DONE, 5, 2, 0, 0, 0xffffffff, 12, 12, 0);
+    LISTS_HEADER(S("\x08\0\0\0\x04\0\x04\0\0\0\0\0"), LITTLE, 0, REFUSED(YZ_UNKNOWN_VERSION, 4));
+    LISTS_HEADER(S("\x08\0\0\0\x05\0\x03\0\0\0\0\0"), LITTLE, 0, BAD_SIZE(3));
+    LISTS_HEADER(S("\x08\0\0\0\x05\0\x04\x01\0\0\0\0"), LITTLE, 0, REFUSED(YZ_UNSUPPORTED_SEGMENT_SIZE, 1));
+    LISTS_HEADER(S("\xf0\xff\xff\xff"), LITTLE, 0, REFUSED(YZ_UNKNOWN_RESERVED_LENGTH, 0xfffffff0));
+    LISTS_HEADER(S("\x07\0\0\0\x05\0\x04\0\0\0\0\0"), LITTLE, 0, CUT_SHORT);
+    LISTS_HEADER(LISTS, LITTLE, MAX, CUT_SHORT);
+    LISTS_HEADER(NO_BYTES, LITTLE, 0, CUT_SHORT);
 }
 
-typedef uint64_t get_offset(const uint8_t *, size_t, bool, uint64_t, uint64_t, bool, yz_words4 *);
+typedef yz_number get_offset(const uint8_t *, size_t, yz_encoding, uint64_t, uint64_t);
+
+/* Base 1 and the offset there sum to 2^64. */
+#define ONES S("\xaa\xff\xff\xff\xff\xff\xff\xff\xff")
+#define OFFSET(section, encoding, base, index, ...) IS(number, get(section, encoding, base, index), __VA_ARGS__)
 
 static void get_offsets(get_offset *get) {
-    FOUR(get(LISTS, D32, 12, 0, LITTLE, &out), DONE, 0, 0, 20, 0);
-    FOUR(get(LISTS, D32, 12, 1, LITTLE, &out), DONE, 0, 0, 22, 0);
-    FOUR(get(LISTS, D32, 12, 2, LITTLE, &out), REFUSED, EOF_WORDS);
-    FOUR(get(ONE_TO_EIGHT, D32, 0, 1, BIG, &out), DONE, 0, 0, 0x05060708, 0);
-    FOUR(get(ONE_TO_EIGHT, D64, 0, 0, BIG, &out), DONE, 0, 0, UINT64_C(0x0102030405060708), 0);
-    FOUR(get(TOO_FAR, D64, 0, 0, LITTLE, &out), DONE, 0, 0, UINT64_C(0xffffffffffffffaa), 0);
-    FOUR(get(TOO_FAR, D64, 1, 0, LITTLE, &out), REFUSED, 0, 0, YZ_UNSUPPORTED_OFFSET, 0);
-    FOUR(get(LISTS, D32, 0, UINT64_C(1) << 62, LITTLE, &out), REFUSED, 0, 0, YZ_UNSUPPORTED_OFFSET, 0);
-    FOUR(get(LISTS, D64, 0, TWO_TO_61 - 1, LITTLE, &out), REFUSED, EOF_WORDS);
-    FOUR(get(LISTS, D32, MAX, MAX, LITTLE, &out), REFUSED, EOF_WORDS);
-    FOUR(get(NOTHING, D32, 0, 0, LITTLE, &out), REFUSED, EOF_WORDS);
+    OFFSET(LISTS, little(5, 4), 12, 0, DONE, 20);
+    OFFSET(LISTS, little(5, 4), 12, 1, DONE, 22);
+    OFFSET(LISTS, little(5, 3), 12, 1, DONE, 22);
+    OFFSET(LISTS, little(5, 4), 12, 2, CUT_SHORT);
+    OFFSET(ONE_TO_EIGHT, big(5, 4), 0, 1, DONE, 0x05060708);
+    OFFSET(ONE_TO_EIGHT, wide(BIG), 0, 0, DONE, UINT64_C(0x0102030405060708));
+    OFFSET(ONES, wide(LITTLE), 0, 0, DONE, UINT64_C(0xffffffffffffffaa));
+    OFFSET(ONES, wide(LITTLE), 1, 0, TOO_FAR);
+    OFFSET(LISTS, little(5, 4), 0, UINT64_C(1) << 62, TOO_FAR);
+    OFFSET(LISTS, wide(LITTLE), 0, TWO_TO_61 - 1, CUT_SHORT);
+    OFFSET(LISTS, little(5, 4), MAX, MAX, CUT_SHORT);
+    OFFSET(NO_BYTES, little(5, 4), 0, 0, CUT_SHORT);
 }
 
 static void test_range_get_offset(void) { get_offsets(yz_range_get_offset); }
 static void test_location_get_offset(void) { get_offsets(yz_location_get_offset); }
 
-typedef uint64_t default_base(bool, uint16_t, bool);
+typedef uint64_t default_base(yz_encoding, yz_file_type);
 
 static void default_bases(default_base *base) {
-    CHECK(base(D32, 5, SPLIT) == 12);
-    CHECK(base(D64, 5, SPLIT) == 20);
-    CHECK(base(D64, 65535, SPLIT) == 20);
-    CHECK(base(D64, 5, MAIN) == 0);
-    CHECK(base(D64, 4, SPLIT) == 0);
+    CHECK(base(little(5, 4), DWO) == 12);
+    CHECK(base(big(5, 3), DWO) == 12);
+    CHECK(base(wide(LITTLE), DWO) == 20);
+    CHECK(base(encoded(65535, 4, true, LITTLE), DWO) == 20);
+    CHECK(base(wide(LITTLE), MAIN) == 0);
+    CHECK(base(encoded(4, 8, true, LITTLE), DWO) == 0);
 }
 
 static void test_range_default_base(void) { default_bases(yz_range_default_base); }
 static void test_location_default_base(void) { default_bases(yz_location_default_base); }
 
-/* ---- Range lists ---- */
+/* ---- Walks ---- */
 
-typedef uint64_t open_list(const uint8_t *, size_t, uint64_t, uint8_t, bool, uint16_t, uint64_t, yz_words4 *);
-
-static void opens(open_list *open) {
-    FOUR(open(S("abc"), 2, 4, D32, 5, 7, &out), DONE, 2, 7, 0, 0);
-    FOUR(open(S("abc"), 3, 8, D64, 2, MAX, &out), DONE, 3, MAX, 0, 0);
-    FOUR(open(NOTHING, 0, 1, D32, 5, 0, &out), DONE, 0, 0, 0, 0);
-    FOUR(open(NOTHING, 1, 2, D32, 4, 0, &out), REFUSED, EOF_WORDS);
-    FOUR(open(S("abc"), MAX, 4, D32, 5, 0, &out), REFUSED, EOF_WORDS);
-    FOUR(open(S("abc"), MAX, 3, D32, 5, 0, &out), REFUSED, 0, 0, YZ_UNSUPPORTED_ADDRESS_SIZE, 3);
+static void test_section_of(void) {
+    CHECK(yz_section_of(little(0, 4)) == YZ_SECTION_BEFORE_5);
+    CHECK(yz_section_of(encoded(3, 8, true, BIG)) == YZ_SECTION_BEFORE_5);
+    CHECK(yz_section_of(little(4, 0)) == YZ_SECTION_BEFORE_5);
+    CHECK(yz_section_of(big(5, 255)) == YZ_SECTION_FROM_5);
+    CHECK(yz_section_of(wide(BIG)) == YZ_SECTION_FROM_5);
+    CHECK(yz_section_of(little(6, 4)) == YZ_SECTION_FROM_5);
+    CHECK(yz_section_of(little(65535, 4)) == YZ_SECTION_FROM_5);
 }
 
-static void test_range_open(void) { opens(yz_range_open); }
-static void test_location_open(void) { opens(yz_location_open); }
+/* The walk that a test is on. */
+static yz_walk walk;
 
-#define NEXT(list, table, size, version, big) yz_range_next(list, table, 8, size, D32, version, big, &io)
+static void walk_from(uint64_t at, uint64_t base_address, uint64_t split) {
+    walk.at = at;
+    walk.base_address = base_address;
+    walk.split = split;
+}
+
+static bool walk_is(uint64_t at, uint64_t base_address, uint64_t split) {
+    return walk.at == at && walk.base_address == base_address && walk.split == split;
+}
+
+/* A call that leaves the walk at a place with a base address, as split as it was, and answers with these fields. */
+#define STEP(type, call, at, base_address, ...)                                                                      \
+    do {                                                                                                             \
+        const uint64_t split = walk.split;                                                                           \
+        IS(type, call, __VA_ARGS__);                                                                                 \
+        check(walk_is(at, base_address, split), __LINE__, "the walk is at " #at ", " #base_address);                 \
+    } while (0)
+
+/* An opening that makes this walk, and one that is refused and makes none. */
+#define OPENS(call, at, base_address, split)                                                                         \
+    do {                                                                                                             \
+        walk_from(OLD_WORD, OLD_WORD, OLD_WORD);                                                                     \
+        IS(done, call, DONE);                                                                                        \
+        check(walk_is(at, base_address, split), __LINE__, "the walk of " #call);                                     \
+    } while (0)
+
+#define REFUSES_OPENING(call, ...)                                                                                   \
+    do {                                                                                                             \
+        walk_from(OLD_WORD, OLD_WORD, OLD_WORD);                                                                     \
+        IS(done, call, __VA_ARGS__);                                                                                 \
+        check(walk_is(OLD_WORD, OLD_WORD, OLD_WORD), __LINE__, "untouched: " #call);                                 \
+    } while (0)
+
+static void test_range_open(void) {
+    OPENS(yz_range_open(S("abc"), little(5, 4), 2, 7, &walk), 2, 7, 0);
+    OPENS(yz_range_open(S("abc"), encoded(2, 8, true, BIG), 3, MAX, &walk), 3, MAX, 0);
+    OPENS(yz_range_open(NO_BYTES, little(5, 1), 0, 0, &walk), 0, 0, 0);
+    REFUSES_OPENING(yz_range_open(NO_BYTES, little(4, 2), 1, 0, &walk), CUT_SHORT);
+    REFUSES_OPENING(yz_range_open(S("abc"), little(5, 4), 4, 0, &walk), CUT_SHORT);
+    REFUSES_OPENING(yz_range_open(S("abc"), little(5, 4), MAX, 0, &walk), CUT_SHORT);
+    REFUSES_OPENING(yz_range_open(S("abc"), little(5, 3), MAX, 0, &walk), BAD_SIZE(3));
+}
+
+static void test_location_open(void) {
+    OPENS(yz_location_open(S("abc"), little(5, 4), MAIN, 2, 7, &walk), 2, 7, 0);
+    OPENS(yz_location_open(S("abc"), little(5, 4), DWO, 2, 7, &walk), 2, 7, 1);
+    OPENS(yz_location_open(S("abc"), encoded(2, 8, true, BIG), DWO, 3, MAX, &walk), 3, MAX, 1);
+    OPENS(yz_location_open(NO_BYTES, little(5, 1), MAIN, 0, 0, &walk), 0, 0, 0);
+    REFUSES_OPENING(yz_location_open(NO_BYTES, little(4, 2), DWO, 1, 0, &walk), CUT_SHORT);
+    REFUSES_OPENING(yz_location_open(S("abc"), little(5, 4), MAIN, 4, 0, &walk), CUT_SHORT);
+    REFUSES_OPENING(yz_location_open(S("abc"), little(5, 4), DWO, MAX, 0, &walk), CUT_SHORT);
+    REFUSES_OPENING(yz_location_open(S("abc"), little(5, 3), MAIN, MAX, 0, &walk), BAD_SIZE(3));
+}
+
+/* ---- Range lists. They leave a walk's word for split lists as it is, whatever it is. ---- */
+
+static void ranges_from(uint64_t at, uint64_t base_address) { walk_from(at, base_address, OLD_WORD); }
+
+#define NEXT(list, table, encoding, at, base_address, ...)                                                           \
+    STEP(range, yz_range_next(list, table, 8, encoding, &walk), at, base_address, __VA_ARGS__)
 
 static void test_range_next(void) {
-    yz_words4 io = walk4(0, 0);
+    ranges_from(0, 0);
 #define LIST S("\x02\0\x02\x03\0\x08\0")
-    STEP4(&io, NEXT(LIST, TABLE, 4, 5, LITTLE), REFUSED, 3, 0, YZ_UNEXPECTED_EOF, 0);
-    STEP4(&io, NEXT(LIST, TABLE, 4, 5, LITTLE), DONE, 6, 0, 0x10, 0x18);
-    STEP4(&io, NEXT(LIST, TABLE, 4, 5, LITTLE), END, 7, 0, 0, 0);
-    STEP4(&io, NEXT(LIST, TABLE, 4, 5, LITTLE), END, 7, 0, 0, 0);
+    NEXT(LIST, TABLE, little(5, 4), 3, 0, CUT_SHORT);
+    NEXT(LIST, TABLE, little(5, 4), 6, 0, DONE, 0x10, 0x18);
+    NEXT(LIST, TABLE, little(5, 4), 7, 0, END);
+    NEXT(LIST, TABLE, little(5, 4), 7, 0, END);
 #undef LIST
-    io = walk4(1, 0x1000);
-    STEP4(&io, NEXT(S("\x09\x04\x01\x82\0\0\0\0\0"), TABLE, 4, 5, LITTLE), DONE, 5, 0x1000, 0x1001, 0x1002);
-    io = walk4(0, 0xfffffffd);
-    STEP4(&io, NEXT(S("\x04\0\x01\0"), TABLE, 4, 5, LITTLE), DONE, 3, 0xfffffffd, 0xfffffffd, 0xfffffffe);
-    io = walk4(0, 0xfffffffe);
-    STEP4(&io, NEXT(S("\x04\0\x01\0"), TABLE, 4, 5, LITTLE), END, 4, 0xfffffffe, 0, 0);
-    io = walk4(0, 0xffffff00);
-    STEP4(&io, NEXT(S("\x04\x80\x02\x90\x02\0"), TABLE, 4, 5, LITTLE), DONE, 5, 0xffffff00, 0, 0x10);
-    io = walk4(0, 0);
-    STEP4(&io, NEXT(S("\x07\xf0\x0f\0"), TABLE, 1, 5, LITTLE), DONE, 3, 0, 0xf0, 0xff);
-    io = walk4(0, 0);
-    STEP4(&io, NEXT(S("\x07\xf0\x20\0\xaa\xaa"), TABLE, 1, 5, LITTLE), END, 6, 0, 0, 0);
-    io = walk4(0, 0);
+    ranges_from(1, 0x1000);
+    NEXT(S("\x09\x04\x01\x82\0\0\0\0\0"), TABLE, little(5, 4), 5, 0x1000, DONE, 0x1001, 0x1002);
+    ranges_from(0, 0xfffffffd);
+    NEXT(S("\x04\0\x01\0"), TABLE, little(5, 4), 3, 0xfffffffd, DONE, 0xfffffffd, 0xfffffffe);
+    ranges_from(0, 0xfffffffe);
+    NEXT(S("\x04\0\x01\0"), TABLE, little(5, 4), 4, 0xfffffffe, END);
+    ranges_from(0, 0xffffff00);
+    NEXT(S("\x04\x80\x02\x90\x02\0"), TABLE, little(5, 4), 5, 0xffffff00, DONE, 0, 0x10);
+    ranges_from(0, 0);
+    NEXT(S("\x07\xf0\x0f\0"), TABLE, little(5, 1), 3, 0, DONE, 0xf0, 0xff);
+    ranges_from(0, 0);
+    NEXT(S("\x07\xf0\x20\0\xaa\xaa"), TABLE, little(5, 1), 6, 0, END);
+    ranges_from(0, 0);
 #define LIST S("\xff\xff\0\x20\x01\0\x03\0\0\0\0\0\x01")
-    STEP4(&io, NEXT(LIST, TABLE, 2, 4, LITTLE), DONE, 8, 0x2000, 0x2001, 0x2003);
-    STEP4(&io, NEXT(LIST, TABLE, 2, 4, LITTLE), END, 13, 0x2000, 0, 0);
+    NEXT(LIST, TABLE, little(4, 2), 8, 0x2000, DONE, 0x2001, 0x2003);
+    NEXT(LIST, TABLE, little(4, 2), 13, 0x2000, END);
 #undef LIST
-    io = walk4(0, 0);
-    STEP4(&io, NEXT(S("\x06\0\0\0\x10\0\0\0\x20\0"), BIG_TABLE, 4, 5, BIG), DONE, 9, 0, 0x10, 0x20);
-    io = walk4(0, 0);
-    STEP4(&io, NEXT(S("\x01\x01\x04\0\x05\0"), BIG_TABLE, 4, 5, BIG), DONE, 5, 0x20, 0x20, 0x25);
-    io = walk4(0, 7);
-    STEP4(&io, NEXT(S("\x08\x04\x01\x02"), TABLE, 4, 5, LITTLE), REFUSED, 4, 7, YZ_UNKNOWN_RANGE_LISTS_ENTRY, 8);
-    STEP4(&io, NEXT(S("\x08\x04\x01\x02"), TABLE, 4, 5, LITTLE), END, 4, 7, 0, 0);
-    io = walk4(0, 7);
-    STEP4(&io, NEXT(S("\x06\x10\0"), TABLE, 4, 5, LITTLE), REFUSED, 3, 7, YZ_UNEXPECTED_EOF, 0);
-    io = walk4(0, 7);
-    STEP4(&io, NEXT(S("\x04" NINE "\x02\x01"), TABLE, 4, 5, LITTLE), REFUSED, 12, 7, YZ_BAD_UNSIGNED_LEB128, 0);
-    io = walk4(0, 7);
-    STEP4(&io, NEXT(S("\x03\x80\x80\x80\x80\x80\x80\x80\x80\x20\0\0"), TABLE, 8, 5, LITTLE), REFUSED, 11, 7,
-          YZ_UNSUPPORTED_OFFSET, 0);
-    io = walk4(0, 7);
-    STEP4(&io, NEXT(S("\x04\x01\x02"), TABLE, 3, 5, LITTLE), REFUSED, 3, 7, YZ_UNSUPPORTED_ADDRESS_SIZE, 3);
-    io = walk4(MAX, 7);
-    STEP4(&io, NEXT(S("\x04\x01\x02"), TABLE, 4, 5, LITTLE), END, MAX, 7, 0, 0);
-    io = walk4(0, 7);
-    STEP4(&io, NEXT(NOTHING, NOTHING, 4, 5, LITTLE), END, 0, 7, 0, 0);
+    ranges_from(0, 0);
+    NEXT(S("\x06\0\0\0\x10\0\0\0\x20\0"), BIG_TABLE, big(5, 4), 9, 0, DONE, 0x10, 0x20);
+    ranges_from(0, 0);
+    NEXT(S("\x01\x01\x04\0\x05\0"), BIG_TABLE, big(6, 4), 5, 0x20, DONE, 0x20, 0x25);
+    ranges_from(0, 7);
+    NEXT(S("\x08\x04\x01\x02"), TABLE, little(5, 4), 4, 7, REFUSED(YZ_UNKNOWN_RANGE_LISTS_ENTRY, 8));
+    NEXT(S("\x08\x04\x01\x02"), TABLE, little(5, 4), 4, 7, END);
+    ranges_from(0, 7);
+    NEXT(S("\x06\x10\0"), TABLE, little(5, 4), 3, 7, CUT_SHORT);
+    ranges_from(0, 7);
+    NEXT(S("\x04" NINE "\x02\x01"), TABLE, little(5, 4), 12, 7, REFUSED(YZ_BAD_UNSIGNED_LEB128, 0));
+    ranges_from(0, 7);
+    NEXT(S("\x03" INDEX_2_61 "\0\0"), TABLE, little(5, 8), 11, 7, TOO_FAR);
+    ranges_from(0, 7);
+    NEXT(S("\x04\x01\x02"), TABLE, little(5, 3), 3, 7, BAD_SIZE(3));
+    NEXT(S("\x04\x01\x02"), TABLE, little(5, 3), 3, 7, BAD_SIZE(3));
+    ranges_from(MAX, 7);
+    NEXT(S("\x04\x01\x02"), TABLE, little(5, 4), MAX, 7, END);
+    ranges_from(0, 7);
+    NEXT(NO_BYTES, NO_BYTES, little(5, 4), 0, 7, END);
 }
 
-static yz_words8 walk8(uint64_t place, uint64_t base) {
-    yz_words8 io;
-    memset(&io, OLD, sizeof io);
-    io.w[0] = place;
-    io.w[1] = base;
-    return io;
-}
-
-#define RAW(list, size, version) yz_range_next_raw(list, size, D32, version, LITTLE, &io)
+#define RAW(list, encoding, at, ...)                                                                                 \
+    STEP(raw_range, yz_range_next_raw(list, encoding, &walk), at, 7, __VA_ARGS__)
 
 static void test_range_next_raw(void) {
-    yz_words8 io = walk8(0, 7);
+    ranges_from(0, 7);
 #define LIST S("\x01\x09\x02\x08\x07\x03\x06\x05\x04\x04\x05\x05\x33\x06\x02\x03\x07\x01\x02\0\x09")
-    STEP8(&io, RAW(LIST, 1, 5), DONE, 2, 7, 1, 9, 0, 0, 0, 0);
-    STEP8(&io, RAW(LIST, 1, 5), DONE, 5, 7, 2, 8, 7, 0, 0, 0);
-    STEP8(&io, RAW(LIST, 1, 5), DONE, 8, 7, 3, 6, 5, 0, 0, 0);
-    STEP8(&io, RAW(LIST, 1, 5), DONE, 11, 7, 4, 4, 5, 0, 0, 0);
-    STEP8(&io, RAW(LIST, 1, 5), DONE, 13, 7, 5, 0x33, 0, 0, 0, 0);
-    STEP8(&io, RAW(LIST, 1, 5), DONE, 16, 7, 6, 2, 3, 0, 0, 0);
-    STEP8(&io, RAW(LIST, 1, 5), DONE, 19, 7, 7, 1, 2, 0, 0, 0);
-    STEP8(&io, RAW(LIST, 1, 5), END, 21, 7, 0, 0, 0, 0, 0, 0);
+    RAW(LIST, little(5, 1), 2, DONE, YZ_RLE_BASE_ADDRESSX, 9, 0);
+    RAW(LIST, little(5, 1), 5, DONE, YZ_RLE_STARTX_ENDX, 8, 7);
+    RAW(LIST, little(5, 1), 8, DONE, YZ_RLE_STARTX_LENGTH, 6, 5);
+    RAW(LIST, little(5, 1), 11, DONE, YZ_RLE_OFFSET_PAIR, 4, 5);
+    RAW(LIST, little(5, 1), 13, DONE, YZ_RLE_BASE_ADDRESS, 0x33, 0);
+    RAW(LIST, little(5, 1), 16, DONE, YZ_RLE_START_END, 2, 3);
+    RAW(LIST, little(5, 1), 19, DONE, YZ_RLE_START_LENGTH, 1, 2);
+    RAW(LIST, little(5, 1), 21, END);
 #undef LIST
-    io = walk8(0, 7);
-    STEP8(&io, RAW(S("\xff\x20\x03\x05"), 1, 4), DONE, 2, 7, 5, 0x20, 0, 0, 0, 0);
-    STEP8(&io, RAW(S("\xff\x20\x03\x05"), 1, 4), DONE, 4, 7, 0, 3, 5, 0, 0, 0);
-    STEP8(&io, RAW(S("\xff\x20\x03\x05"), 1, 4), END, 4, 7, 0, 0, 0, 0, 0, 0);
-    io = walk8(0, 7);
-    STEP8(&io, yz_range_next_raw(S("\x05\0\x01"), 2, D64, 6, BIG, &io), DONE, 3, 7, 5, 1, 0, 0, 0, 0);
-    io = walk8(0, 7);
-    STEP8(&io, RAW(S("\xff\0\0"), 1, 5), REFUSED, 3, 7, YZ_UNKNOWN_RANGE_LISTS_ENTRY, 0xff, 0, 0, 0, 0);
-    io = walk8(0, 7);
-    STEP8(&io, RAW(S("\x06\x01"), 1, 5), REFUSED, 2, 7, YZ_UNEXPECTED_EOF, 0, 0, 0, 0, 0);
-    io = walk8(0, 7);
-    STEP8(&io, RAW(S("\x01" NINE "\x02"), 1, 5), REFUSED, 11, 7, YZ_BAD_UNSIGNED_LEB128, 0, 0, 0, 0, 0);
-    io = walk8(MAX, 7);
-    STEP8(&io, RAW(S("\0\0"), 0, 5), REFUSED, 2, 7, YZ_UNSUPPORTED_ADDRESS_SIZE, 0, 0, 0, 0, 0);
-    io = walk8(MAX, 7);
-    STEP8(&io, RAW(S("\0\0"), 1, 5), END, MAX, 7, 0, 0, 0, 0, 0, 0);
-    io = walk8(0, 7);
-    STEP8(&io, RAW(NOTHING, 1, 4), END, 0, 7, 0, 0, 0, 0, 0, 0);
+    ranges_from(0, 7);
+    RAW(S("\xff\x20\x03\x05"), little(4, 1), 2, DONE, YZ_RLE_BASE_ADDRESS, 0x20, 0);
+    RAW(S("\xff\x20\x03\x05"), little(4, 1), 4, DONE, YZ_RLE_ADDRESS_OR_OFFSET_PAIR, 3, 5);
+    RAW(S("\xff\x20\x03\x05"), little(4, 1), 4, END);
+    ranges_from(0, 7);
+    RAW(S("\x05\0\x01"), encoded(6, 2, true, BIG), 3, DONE, YZ_RLE_BASE_ADDRESS, 1, 0);
+    ranges_from(0, 7);
+    RAW(S("\xff\0\0"), little(5, 1), 3, REFUSED(YZ_UNKNOWN_RANGE_LISTS_ENTRY, 0xff));
+    ranges_from(0, 7);
+    RAW(S("\x06\x01"), little(5, 1), 2, CUT_SHORT);
+    ranges_from(0, 7);
+    RAW(S("\x01" NINE "\x02"), little(5, 1), 11, REFUSED(YZ_BAD_UNSIGNED_LEB128, 0));
+    ranges_from(MAX, 7);
+    RAW(S("\0\0"), little(5, 0), 2, BAD_SIZE(0));
+    RAW(S("\0\0"), little(5, 0), 2, BAD_SIZE(0));
+    ranges_from(MAX, 7);
+    RAW(S("\0\0"), little(5, 1), MAX, END);
+    ranges_from(0, 7);
+    RAW(NO_BYTES, little(4, 1), 0, END);
 }
 
-/* A walk and an entry, as next_raw gives them. */
-static yz_words8 entry(uint64_t base, uint64_t kind, uint64_t first, uint64_t second) {
-    yz_words8 io = walk8(5, base);
-    io.w[2] = kind;
-    io.w[3] = first;
-    io.w[4] = second;
-    return io;
+static yz_range_entry range_entry(uint64_t kind, uint64_t first, uint64_t second) {
+    yz_range_entry entry;
+    entry.kind = kind;
+    entry.first = first;
+    entry.second = second;
+    return entry;
 }
 
-#define CONVERT(table, size, big) yz_range_convert_raw(table, 8, size, D32, 5, big, &io)
+/* What an entry comes to on a walk with base address 0x100; the walk's base address then. */
+#define CONVERT(table, encoding, kind, first, second, base_address, ...)                                             \
+    do {                                                                                                             \
+        ranges_from(5, 0x100);                                                                                       \
+        STEP(range, yz_range_convert_raw(table, 8, encoding, range_entry(kind, first, second), &walk), 5,            \
+             base_address, __VA_ARGS__);                                                                             \
+    } while (0)
 
 static void test_range_convert_raw(void) {
-    yz_words8 io = entry(0x100, 0, 1, 2);
-    STEP8(&io, CONVERT(TABLE, 4, LITTLE), DONE, 5, 0x100, 0x101, 0x102, 0, 0, 0, 0);
-    io = entry(0x100, 1, 1, MAX);
-    STEP8(&io, CONVERT(TABLE, 4, LITTLE), END, 5, 0x20, 0, 0, 0, 0, 0, 0);
-    io = entry(0x100, 2, 0, 1);
-    STEP8(&io, CONVERT(BIG_TABLE, 4, BIG), DONE, 5, 0x100, 0x10, 0x20, 0, 0, 0, 0);
-    io = entry(0x100, 3, 1, 5);
-    STEP8(&io, CONVERT(TABLE, 4, LITTLE), DONE, 5, 0x100, 0x20, 0x25, 0, 0, 0, 0);
-    io = entry(0x100, 4, 2, 2);
-    STEP8(&io, CONVERT(TABLE, 4, LITTLE), END, 5, 0x100, 0, 0, 0, 0, 0, 0);
-    io = entry(0x100, 5, 0x200, 0);
-    STEP8(&io, CONVERT(TABLE, 4, LITTLE), END, 5, 0x200, 0, 0, 0, 0, 0, 0);
-    io = entry(0x100, 6, 5, 7);
-    STEP8(&io, CONVERT(TABLE, 4, LITTLE), DONE, 5, 0x100, 5, 7, 0, 0, 0, 0);
-    io = entry(0x100, 7, 5, 7);
-    STEP8(&io, CONVERT(TABLE, 4, LITTLE), DONE, 5, 0x100, 5, 12, 0, 0, 0, 0);
-    io = entry(0x100, 8, 5, 7);
-    STEP8(&io, CONVERT(TABLE, 4, LITTLE), REFUSED, 5, 0x100, YZ_UNKNOWN_RANGE_LISTS_ENTRY, 8, 0, 0, 0, 0);
-    io = entry(0x100, MAX, 5, 7);
-    STEP8(&io, CONVERT(TABLE, 3, LITTLE), REFUSED, 5, 0x100, YZ_UNKNOWN_RANGE_LISTS_ENTRY, MAX, 0, 0, 0, 0);
-    io = entry(0x100, 6, 5, 7);
-    STEP8(&io, CONVERT(TABLE, 3, LITTLE), REFUSED, 5, 0x100, YZ_UNSUPPORTED_ADDRESS_SIZE, 3, 0, 0, 0, 0);
-    io = entry(0x100, 1, 2, 0);
-    STEP8(&io, CONVERT(TABLE, 4, LITTLE), REFUSED, 5, 0x100, YZ_UNEXPECTED_EOF, 0, 0, 0, 0, 0);
-    io = entry(0x100, 2, 0, MAX);
-    STEP8(&io, CONVERT(TABLE, 4, LITTLE), REFUSED, 5, 0x100, YZ_UNSUPPORTED_OFFSET, 0, 0, 0, 0, 0);
-    io = entry(0x100, 1, 0, 0);
-    STEP8(&io, CONVERT(NOTHING, 4, LITTLE), REFUSED, 5, 0x100, YZ_UNEXPECTED_EOF, 0, 0, 0, 0, 0);
+    CONVERT(TABLE, little(5, 4), YZ_RLE_ADDRESS_OR_OFFSET_PAIR, 1, 2, 0x100, DONE, 0x101, 0x102);
+    CONVERT(TABLE, little(5, 4), YZ_RLE_BASE_ADDRESSX, 1, MAX, 0x20, COMES_TO_NOTHING);
+    CONVERT(BIG_TABLE, big(5, 4), YZ_RLE_STARTX_ENDX, 0, 1, 0x100, DONE, 0x10, 0x20);
+    CONVERT(TABLE, little(5, 4), YZ_RLE_STARTX_LENGTH, 1, 5, 0x100, DONE, 0x20, 0x25);
+    CONVERT(TABLE, little(5, 4), YZ_RLE_OFFSET_PAIR, 2, 2, 0x100, COMES_TO_NOTHING);
+    CONVERT(TABLE, little(5, 4), YZ_RLE_BASE_ADDRESS, 0x200, 0, 0x200, COMES_TO_NOTHING);
+    CONVERT(TABLE, little(5, 4), YZ_RLE_START_END, 5, 7, 0x100, DONE, 5, 7);
+    CONVERT(TABLE, little(5, 4), YZ_RLE_START_LENGTH, 5, 7, 0x100, DONE, 5, 12);
+    CONVERT(TABLE, little(5, 4), 8, 5, 7, 0x100, REFUSED(YZ_UNKNOWN_RANGE_LISTS_ENTRY, 8));
+    CONVERT(TABLE, little(5, 4), MAX, 5, 7, 0x100, REFUSED(YZ_UNKNOWN_RANGE_LISTS_ENTRY, MAX));
+    CONVERT(TABLE, little(5, 3), MAX, 5, 7, 0x100, BAD_SIZE(3));
+    CONVERT(TABLE, little(5, 3), YZ_RLE_START_END, 5, 7, 0x100, BAD_SIZE(3));
+    CONVERT(TABLE, little(5, 4), YZ_RLE_BASE_ADDRESSX, 2, 0, 0x100, CUT_SHORT);
+    CONVERT(TABLE, little(5, 4), YZ_RLE_STARTX_ENDX, 0, MAX, 0x100, TOO_FAR);
+    CONVERT(NO_BYTES, little(5, 4), YZ_RLE_BASE_ADDRESSX, 0, 0, 0x100, CUT_SHORT);
 }
 
-#define LOOKUP(list, size, offset, address)                                                                          \
-    yz_range_lookup(list, TABLE, 8, offset, 0x40, size, D32, 5, LITTLE, address, &out)
+#define LOOKUP(list, encoding, offset, address, ...)                                                                 \
+    IS(range, yz_range_lookup(list, TABLE, 8, encoding, offset, 0x40, address), __VA_ARGS__)
 
 static void test_range_lookup(void) {
 #define LIST S("\x07\x10\0\0\0\x08\x03\x01\x08\x04\x02\x03\x08")
-    FOUR(LOOKUP(LIST, 4, 0, 0x10), DONE, 0, 0, 0x10, 0x18);
-    FOUR(LOOKUP(LIST, 4, 0, 0x27), DONE, 0, 0, 0x20, 0x28);
-    FOUR(LOOKUP(LIST, 4, 9, 0x42), DONE, 0, 0, 0x42, 0x43);
-    FOUR(LOOKUP(LIST, 4, 0, 0x18), REFUSED, 0, 0, YZ_UNKNOWN_RANGE_LISTS_ENTRY, 8);
-    FOUR(LOOKUP(LIST, 4, MAX, 0x10), REFUSED, EOF_WORDS);
-    FOUR(LOOKUP(LIST, 9, MAX, 0x10), REFUSED, 0, 0, YZ_UNSUPPORTED_ADDRESS_SIZE, 9);
+    LOOKUP(LIST, little(5, 4), 0, 0x10, DONE, 0x10, 0x18);
+    LOOKUP(LIST, little(5, 4), 0, 0x27, DONE, 0x20, 0x28);
+    LOOKUP(LIST, little(5, 4), 9, 0x42, DONE, 0x42, 0x43);
+    LOOKUP(LIST, little(5, 4), 0, 0x18, REFUSED(YZ_UNKNOWN_RANGE_LISTS_ENTRY, 8));
+    LOOKUP(LIST, little(5, 4), MAX, 0x10, CUT_SHORT);
+    LOOKUP(LIST, little(5, 9), MAX, 0x10, BAD_SIZE(9));
 #undef LIST
-    FOUR(LOOKUP(S("\x07\x10\0\0\0\x08\0"), 4, 0, 0x18), END, 0, 0, 0, 0);
-    FOUR(LOOKUP(S("\x07\x10\0\0\0\x08\0"), 4, 0, MAX), END, 0, 0, 0, 0);
-    FOUR(LOOKUP(NOTHING, 4, 0, 0), END, 0, 0, 0, 0);
-    FOUR(LOOKUP(NOTHING, 4, 1, 0), REFUSED, EOF_WORDS);
-    FOUR(yz_range_lookup(S("\x01\x03\0\0"), NOTHING, 0, 0, 0x40, 1, D32, 4, BIG, 0x42, &out), DONE, 0, 0, 0x41, 0x43);
+    LOOKUP(S("\x07\x10\0\0\0\x08\0"), little(5, 4), 0, 0x18, NOT_THERE);
+    LOOKUP(S("\x07\x10\0\0\0\x08\0"), little(5, 4), 0, MAX, NOT_THERE);
+    LOOKUP(NO_BYTES, little(5, 4), 0, 0, NOT_THERE);
+    LOOKUP(NO_BYTES, little(5, 4), 1, 0, CUT_SHORT);
+    IS(range, yz_range_lookup(S("\x01\x03\0\0"), NO_BYTES, 0, big(4, 1), 0, 0x40, 0x42), DONE, 0x41, 0x43);
 }
 
-/* ---- Location lists ---- */
+/* ---- Location lists. Any word but 0 makes a walk one of a split list. ---- */
 
-#define LNEXT(list, size, version, split) yz_location_next(list, TABLE, 8, size, D32, version, LITTLE, split, &io)
+#define LNEXT(list, table, encoding, at, base_address, ...)                                                          \
+    STEP(location, yz_location_next(list, table, 8, encoding, &walk), at, base_address, __VA_ARGS__)
 
 static void test_location_next(void) {
-    yz_words8 io = walk8(0, 0);
-    STEP8(&io, LNEXT(S("\x05\x01\x50\0"), 4, 5, MAIN), DONE, 3, 0, 0, MAX, 2, 1, 0, 0);
-    STEP8(&io, LNEXT(S("\x05\x01\x50\0"), 4, 5, MAIN), END, 4, 0, 0, 0, 0, 0, 0, 0);
-    io = walk8(0, 0);
-    STEP8(&io, LNEXT(S("\x03\0\x08\0\0\0\x01\0\x50\0"), 4, 4, SPLIT), DONE, 9, 0, 0x10, 0x18, 8, 1, 0, 0);
-    io = walk8(0, 0);
-    STEP8(&io, LNEXT(S("\x04\0\x01\x01\0\x50\0"), 4, 4, SPLIT), DONE, 6, 0, 0, 1, 5, 1, 0, 0);
-    io = walk8(0, 0);
-#define LIST S("\x03\x02\x08\0\x02\0\x01\x02\x50\x51\0\0\0")
-    STEP8(&io, LNEXT(LIST, 4, 5, MAIN), REFUSED, 4, 0, YZ_UNEXPECTED_EOF, 0, 0, 0, 0, 0);
-    STEP8(&io, LNEXT(LIST, 4, 5, MAIN), DONE, 10, 0, 0x10, 0x20, 8, 2, 0, 0);
-    STEP8(&io, LNEXT(LIST, 4, 5, MAIN), END, 13, 0, 0, 0, 0, 0, 0, 0);
+    walk_from(0, 0, 0);
+    LNEXT(S("\x05\x01\x50\0"), TABLE, little(5, 4), 3, 0, DONE, 0, MAX, 2, 1);
+    LNEXT(S("\x05\x01\x50\0"), TABLE, little(5, 4), 4, 0, END);
+    walk_from(0, 0, 1);
+#define LIST S("\x03\0\x08\0\0\0\x01\0\x50\0")
+    LNEXT(LIST, TABLE, little(4, 4), 9, 0, DONE, 0x10, 0x18, 8, 1);
+    LNEXT(LIST, TABLE, little(4, 4), 10, 0, END);
+    walk_from(0, 0, MAX);
+    LNEXT(LIST, TABLE, little(4, 4), 9, 0, DONE, 0x10, 0x18, 8, 1);
+    walk_from(0, 0, UINT64_C(1) << 32);
+    LNEXT(LIST, TABLE, little(4, 4), 9, 0, DONE, 0x10, 0x18, 8, 1);
+    walk_from(0, 0, 0);
+    LNEXT(LIST, TABLE, little(4, 4), 10, 0, CUT_SHORT);
 #undef LIST
-    io = walk8(0, 0);
-    STEP8(&io, LNEXT(S("\xff\x20\x01\x03\x02\0\x50\x51\0\0"), 1, 4, MAIN), DONE, 8, 0x20, 0x21, 0x23, 6, 2, 0, 0);
-    io = walk8(0, 0);
-    STEP8(&io, yz_location_next(S("\x01\x01\x04\0\x05\0\0"), BIG_TABLE, 8, 4, D64, 5, BIG, MAIN, &io), DONE, 6, 0x20, 0x20,
-          0x25, 6, 0, 0, 0);
-    io = walk8(0, 7);
-    STEP8(&io, LNEXT(S("\x09\0"), 4, 5, MAIN), REFUSED, 2, 7, YZ_UNKNOWN_LOC_LISTS_ENTRY, 9, 0, 0, 0, 0);
-    io = walk8(0, 7);
-    STEP8(&io, LNEXT(S("\x04\0\x01\x02\x50"), 4, 5, MAIN), REFUSED, 5, 7, YZ_UNEXPECTED_EOF, 0, 0, 0, 0, 0);
-    io = walk8(0, 7);
-    STEP8(&io, LNEXT(S("\x05" NINE "\x01"), 4, 5, MAIN), REFUSED, 11, 7, YZ_UNEXPECTED_EOF, 0, 0, 0, 0, 0);
-    io = walk8(0, 7);
-    STEP8(&io, LNEXT(S("\x05" NINE "\x02"), 4, 5, MAIN), REFUSED, 11, 7, YZ_BAD_UNSIGNED_LEB128, 0, 0, 0, 0, 0);
-    io = walk8(0, 7);
-    STEP8(&io, LNEXT(S("\x03\x80\x80\x80\x80\x80\x80\x80\x80\x20\0\0\0"), 8, 5, MAIN), REFUSED, 12, 7,
-          YZ_UNSUPPORTED_OFFSET, 0, 0, 0, 0, 0);
-    io = walk8(0, 7);
-    STEP8(&io, LNEXT(S("\0"), 6, 5, MAIN), REFUSED, 1, 7, YZ_UNSUPPORTED_ADDRESS_SIZE, 6, 0, 0, 0, 0);
-    io = walk8(MAX, 7);
-    STEP8(&io, LNEXT(S("\x05\0"), 4, 5, MAIN), END, MAX, 7, 0, 0, 0, 0, 0, 0);
-    io = walk8(0, 7);
-    STEP8(&io, LNEXT(NOTHING, 4, 5, MAIN), END, 0, 7, 0, 0, 0, 0, 0, 0);
+    walk_from(0, 0, 1);
+    LNEXT(S("\x04\0\x01\x01\0\x50\0"), TABLE, little(4, 4), 6, 0, DONE, 0, 1, 5, 1);
+    walk_from(0, 0, 0);
+#define LIST S("\x03\x02\x08\0\x02\0\x01\x02\x50\x51\0\0\0")
+    LNEXT(LIST, TABLE, little(5, 4), 4, 0, CUT_SHORT);
+    LNEXT(LIST, TABLE, little(5, 4), 10, 0, DONE, 0x10, 0x20, 8, 2);
+    LNEXT(LIST, TABLE, little(5, 4), 13, 0, END);
+#undef LIST
+    walk_from(0, 0, 0);
+    LNEXT(S("\xff\x20\x01\x03\x02\0\x50\x51\0\0"), TABLE, little(4, 1), 8, 0x20, DONE, 0x21, 0x23, 6, 2);
+    walk_from(0, 0, 0);
+    LNEXT(S("\x01\x01\x04\0\x05\0\0"), BIG_TABLE, encoded(5, 4, true, BIG), 6, 0x20, DONE, 0x20, 0x25, 6, 0);
+    walk_from(0, 7, 0);
+    LNEXT(S("\x09\0"), TABLE, little(5, 4), 2, 7, REFUSED(YZ_UNKNOWN_LOC_LISTS_ENTRY, 9));
+    walk_from(0, 7, 0);
+    LNEXT(S("\x04\0\x01\x02\x50"), TABLE, little(5, 4), 5, 7, CUT_SHORT);
+    walk_from(0, 7, 0);
+    LNEXT(S("\x05" NINE "\x01"), TABLE, little(5, 4), 11, 7, CUT_SHORT);
+    walk_from(0, 7, 0);
+    LNEXT(S("\x05" NINE "\x02"), TABLE, little(5, 4), 11, 7, REFUSED(YZ_BAD_UNSIGNED_LEB128, 0));
+    walk_from(0, 7, 0);
+    LNEXT(S("\x03" INDEX_2_61 "\0\0\0"), TABLE, little(5, 8), 12, 7, TOO_FAR);
+    walk_from(0, 7, 0);
+    LNEXT(S("\0"), TABLE, little(5, 6), 1, 7, BAD_SIZE(6));
+    LNEXT(S("\0"), TABLE, little(5, 6), 1, 7, BAD_SIZE(6));
+    walk_from(MAX, 7, 0);
+    LNEXT(S("\x05\0"), TABLE, little(5, 4), MAX, 7, END);
+    walk_from(0, 7, 0);
+    LNEXT(NO_BYTES, NO_BYTES, little(5, 4), 0, 7, END);
 }
 
-#define LRAW(list, size, version, split) yz_location_next_raw(list, size, D32, version, LITTLE, split, &io)
+#define LRAW(list, encoding, at, ...)                                                                                \
+    STEP(raw_location, yz_location_next_raw(list, encoding, &walk), at, 7, __VA_ARGS__)
 
 static void test_location_next_raw(void) {
-    yz_words8 io = walk8(0, 7);
+    walk_from(0, 7, 0);
 #define LIST                                                                                                         \
     S("\x01\x09\x02\x08\x07\0\x03\x06\x05\x01\x50\x04\x04\x05\0\x05\x02\x51\x52\x06\x33\x07\x02\x03\0\x08\x01\x02\0\0\x09")
-    STEP8(&io, LRAW(LIST, 1, 5, MAIN), DONE, 2, 7, 1, 9, 0, 0, 0, 0);
-    STEP8(&io, LRAW(LIST, 1, 5, MAIN), DONE, 6, 7, 2, 8, 7, 6, 0, 0);
-    STEP8(&io, LRAW(LIST, 1, 5, MAIN), DONE, 11, 7, 3, 6, 5, 10, 1, 0);
-    STEP8(&io, LRAW(LIST, 1, 5, MAIN), DONE, 15, 7, 4, 4, 5, 15, 0, 0);
-    STEP8(&io, LRAW(LIST, 1, 5, MAIN), DONE, 19, 7, 5, 0, 0, 17, 2, 0);
-    STEP8(&io, LRAW(LIST, 1, 5, MAIN), DONE, 21, 7, 6, 0x33, 0, 0, 0, 0);
-    STEP8(&io, LRAW(LIST, 1, 5, MAIN), DONE, 25, 7, 7, 2, 3, 25, 0, 0);
-    STEP8(&io, LRAW(LIST, 1, 5, MAIN), DONE, 29, 7, 8, 1, 2, 29, 0, 0);
-    STEP8(&io, LRAW(LIST, 1, 5, MAIN), END, 31, 7, 0, 0, 0, 0, 0, 0);
+    LRAW(LIST, little(5, 1), 2, DONE, YZ_LLE_BASE_ADDRESSX, 9, 0, 0, 0);
+    LRAW(LIST, little(5, 1), 6, DONE, YZ_LLE_STARTX_ENDX, 8, 7, 6, 0);
+    LRAW(LIST, little(5, 1), 11, DONE, YZ_LLE_STARTX_LENGTH, 6, 5, 10, 1);
+    LRAW(LIST, little(5, 1), 15, DONE, YZ_LLE_OFFSET_PAIR, 4, 5, 15, 0);
+    LRAW(LIST, little(5, 1), 19, DONE, YZ_LLE_DEFAULT_LOCATION, 0, 0, 17, 2);
+    LRAW(LIST, little(5, 1), 21, DONE, YZ_LLE_BASE_ADDRESS, 0x33, 0, 0, 0);
+    LRAW(LIST, little(5, 1), 25, DONE, YZ_LLE_START_END, 2, 3, 25, 0);
+    LRAW(LIST, little(5, 1), 29, DONE, YZ_LLE_START_LENGTH, 1, 2, 29, 0);
+    LRAW(LIST, little(5, 1), 31, END);
 #undef LIST
-    io = walk8(0, 7);
-    STEP8(&io, LRAW(S("\x03\x01\x02\0\0\0\x01\0\x50\0"), 1, 4, SPLIT), DONE, 9, 7, 3, 1, 2, 8, 1, 0);
-    io = walk8(0, 7);
-    STEP8(&io, LRAW(S("\x03\x05\x01\0\x50"), 1, 4, MAIN), DONE, 5, 7, 0, 3, 5, 4, 1, 0);
-    io = walk8(0, 7);
-    STEP8(&io, LRAW(S("\x03\x05\x01"), 1, 4, MAIN), REFUSED, 3, 7, YZ_UNEXPECTED_EOF, 0, 0, 0, 0, 0);
-    io = walk8(0, 7);
-    STEP8(&io, LRAW(S("\x09"), 1, 5, MAIN), REFUSED, 1, 7, YZ_UNKNOWN_LOC_LISTS_ENTRY, 9, 0, 0, 0, 0);
-    io = walk8(0, 7);
-    STEP8(&io, LRAW(S("\x01" NINE "\x02"), 1, 5, MAIN), REFUSED, 11, 7, YZ_BAD_UNSIGNED_LEB128, 0, 0, 0, 0, 0);
-    io = walk8(MAX, 7);
-    STEP8(&io, LRAW(S("\x09"), 5, 5, MAIN), REFUSED, 1, 7, YZ_UNSUPPORTED_ADDRESS_SIZE, 5, 0, 0, 0, 0);
-    io = walk8(MAX, 7);
-    STEP8(&io, LRAW(S("\x09"), 1, 5, MAIN), END, MAX, 7, 0, 0, 0, 0, 0, 0);
-    io = walk8(0, 7);
-    STEP8(&io, LRAW(NOTHING, 1, 4, SPLIT), END, 0, 7, 0, 0, 0, 0, 0, 0);
+#define LIST S("\x03\x01\x02\0\0\0\x01\0\x50\0")
+    walk_from(0, 7, 1);
+    LRAW(LIST, little(4, 1), 9, DONE, YZ_LLE_STARTX_LENGTH, 1, 2, 8, 1);
+    walk_from(0, 7, OLD_WORD);
+    LRAW(LIST, little(4, 1), 9, DONE, YZ_LLE_STARTX_LENGTH, 1, 2, 8, 1);
+#undef LIST
+    walk_from(0, 7, 0);
+    LRAW(S("\x03\x05\x01\0\x50"), little(4, 1), 5, DONE, YZ_LLE_ADDRESS_OR_OFFSET_PAIR, 3, 5, 4, 1);
+    walk_from(0, 7, 0);
+    LRAW(S("\x03\x05\x01"), little(4, 1), 3, CUT_SHORT);
+    walk_from(0, 7, 0);
+    LRAW(S("\x09"), little(5, 1), 1, REFUSED(YZ_UNKNOWN_LOC_LISTS_ENTRY, 9));
+    walk_from(0, 7, 0);
+    LRAW(S("\x01" NINE "\x02"), little(5, 1), 11, REFUSED(YZ_BAD_UNSIGNED_LEB128, 0));
+    walk_from(MAX, 7, 0);
+    LRAW(S("\x09"), little(5, 5), 1, BAD_SIZE(5));
+    LRAW(S("\x09"), little(5, 5), 1, BAD_SIZE(5));
+    walk_from(MAX, 7, 0);
+    LRAW(S("\x09"), little(5, 1), MAX, END);
+    walk_from(0, 7, 1);
+    LRAW(NO_BYTES, little(4, 1), 0, END);
 }
 
-/* The same with an expression. */
-static yz_words8 located(uint64_t base, uint64_t kind, uint64_t first, uint64_t second, uint64_t offset, uint64_t len) {
-    yz_words8 io = entry(base, kind, first, second);
-    io.w[5] = offset;
-    io.w[6] = len;
-    return io;
+static yz_location_entry location_entry(uint64_t kind, uint64_t first, uint64_t second, uint64_t offset, uint64_t length) {
+    yz_location_entry entry;
+    entry.kind = kind;
+    entry.first = first;
+    entry.second = second;
+    entry.expression = part(offset, length);
+    return entry;
 }
 
-#define LCONVERT(table, size) yz_location_convert_raw(table, 8, size, D32, 5, LITTLE, &io)
+/* The same with the expression at 3 of length 4. */
+static yz_location_entry entry(uint64_t kind, uint64_t first, uint64_t second) {
+    return location_entry(kind, first, second, 3, 4);
+}
+
+#define LCONVERT(table, encoding, entry, base_address, ...)                                                          \
+    do {                                                                                                             \
+        walk_from(5, 0x100, OLD_WORD);                                                                               \
+        STEP(location, yz_location_convert_raw(table, 8, encoding, entry, &walk), 5, base_address, __VA_ARGS__);     \
+    } while (0)
 
 static void test_location_convert_raw(void) {
-    yz_words8 io = located(0x100, 0, 1, 2, 3, 4);
-    STEP8(&io, LCONVERT(TABLE, 4), DONE, 5, 0x100, 0x101, 0x102, 3, 4, 0, 0);
-    io = located(0x100, 1, 1, 0, 3, 4);
-    STEP8(&io, LCONVERT(TABLE, 4), END, 5, 0x20, 0, 0, 0, 0, 0, 0);
-    io = located(0x100, 2, 0, 1, MAX, MAX);
-    STEP8(&io, LCONVERT(TABLE, 4), DONE, 5, 0x100, 0x10, 0x20, MAX, MAX, 0, 0);
-    io = located(0x100, 3, 1, 5, 3, 4);
-    STEP8(&io, LCONVERT(TABLE, 4), DONE, 5, 0x100, 0x20, 0x25, 3, 4, 0, 0);
-    io = located(0x100, 4, 3, 2, 3, 4);
-    STEP8(&io, LCONVERT(TABLE, 4), END, 5, 0x100, 0, 0, 0, 0, 0, 0);
-    io = located(0x100, 5, 9, 9, 3, 4);
-    STEP8(&io, LCONVERT(TABLE, 4), DONE, 5, 0x100, 0, MAX, 3, 4, 0, 0);
-    io = located(0x100, 6, 0x200, 9, 3, 4);
-    STEP8(&io, LCONVERT(TABLE, 4), END, 5, 0x200, 0, 0, 0, 0, 0, 0);
-    io = located(0x100, 7, 5, 7, 3, 4);
-    STEP8(&io, LCONVERT(TABLE, 4), DONE, 5, 0x100, 5, 7, 3, 4, 0, 0);
-    io = located(0x100, 8, 5, 7, 3, 4);
-    STEP8(&io, LCONVERT(TABLE, 4), DONE, 5, 0x100, 5, 12, 3, 4, 0, 0);
-    io = located(0x100, 9, 5, 7, 3, 4);
-    STEP8(&io, LCONVERT(TABLE, 4), REFUSED, 5, 0x100, YZ_UNKNOWN_LOC_LISTS_ENTRY, 9, 0, 0, 0, 0);
-    io = located(0x100, 7, 5, 7, 3, 4);
-    STEP8(&io, LCONVERT(TABLE, 16), REFUSED, 5, 0x100, YZ_UNSUPPORTED_ADDRESS_SIZE, 16, 0, 0, 0, 0);
-    io = located(0x100, 3, 2, 7, 3, 4);
-    STEP8(&io, LCONVERT(TABLE, 4), REFUSED, 5, 0x100, YZ_UNEXPECTED_EOF, 0, 0, 0, 0, 0);
-    io = located(0x100, 3, MAX, 7, 3, 4);
-    STEP8(&io, LCONVERT(TABLE, 4), REFUSED, 5, 0x100, YZ_UNSUPPORTED_OFFSET, 0, 0, 0, 0, 0);
-    io = located(0x100, 1, 0, 0, 0, 0);
-    STEP8(&io, LCONVERT(NOTHING, 4), REFUSED, 5, 0x100, YZ_UNEXPECTED_EOF, 0, 0, 0, 0, 0);
+    LCONVERT(TABLE, little(5, 4), entry(YZ_LLE_ADDRESS_OR_OFFSET_PAIR, 1, 2), 0x100, DONE, 0x101, 0x102, 3, 4);
+    LCONVERT(TABLE, little(5, 4), entry(YZ_LLE_BASE_ADDRESSX, 1, 0), 0x20, COMES_TO_NOTHING);
+    LCONVERT(BIG_TABLE, big(5, 4), entry(YZ_LLE_STARTX_ENDX, 0, 1), 0x100, DONE, 0x10, 0x20, 3, 4);
+    LCONVERT(TABLE, little(5, 4), entry(YZ_LLE_STARTX_LENGTH, 1, 5), 0x100, DONE, 0x20, 0x25, 3, 4);
+    LCONVERT(TABLE, little(5, 4), entry(YZ_LLE_OFFSET_PAIR, 3, 2), 0x100, COMES_TO_NOTHING);
+    LCONVERT(TABLE, little(5, 4), entry(YZ_LLE_DEFAULT_LOCATION, 9, 9), 0x100, DONE, 0, MAX, 3, 4);
+    LCONVERT(TABLE, little(5, 4), entry(YZ_LLE_BASE_ADDRESS, 0x200, 9), 0x200, COMES_TO_NOTHING);
+    LCONVERT(TABLE, little(5, 4), entry(YZ_LLE_START_END, 5, 7), 0x100, DONE, 5, 7, 3, 4);
+    LCONVERT(TABLE, little(5, 4), entry(YZ_LLE_START_LENGTH, 5, 7), 0x100, DONE, 5, 12, 3, 4);
+    LCONVERT(TABLE, little(5, 4), location_entry(YZ_LLE_START_END, 5, 7, MAX, MAX), 0x100, DONE, 5, 7, MAX, MAX);
+    LCONVERT(TABLE, little(5, 4), entry(9, 5, 7), 0x100, REFUSED(YZ_UNKNOWN_LOC_LISTS_ENTRY, 9));
+    LCONVERT(TABLE, little(5, 4), entry(MAX, 5, 7), 0x100, REFUSED(YZ_UNKNOWN_LOC_LISTS_ENTRY, MAX));
+    LCONVERT(TABLE, little(5, 16), entry(MAX, 5, 7), 0x100, BAD_SIZE(16));
+    LCONVERT(TABLE, little(5, 16), entry(YZ_LLE_START_END, 5, 7), 0x100, BAD_SIZE(16));
+    LCONVERT(TABLE, little(5, 4), entry(YZ_LLE_STARTX_LENGTH, 2, 7), 0x100, CUT_SHORT);
+    LCONVERT(TABLE, little(5, 4), entry(YZ_LLE_STARTX_LENGTH, MAX, 7), 0x100, TOO_FAR);
+    LCONVERT(NO_BYTES, little(5, 4), entry(YZ_LLE_BASE_ADDRESSX, 0, 0), 0x100, CUT_SHORT);
 }
 
-#define LLOOKUP(list, size, version, split, offset, address)                                                         \
-    yz_location_lookup(list, TABLE, 8, offset, 0x100, size, D32, version, LITTLE, split, address, &out)
+static bool expression_is(const uint8_t *section, size_t section_len, yz_part in, uint64_t offset, uint64_t length) {
+    const yz_part lying = yz_expression(section, section_len, in);
+    return lying.offset == offset && lying.length == length;
+}
+
+static void test_expression(void) {
+    CHECK(expression_is(S("abcd"), part(1, 2), 1, 2));
+    CHECK(expression_is(S("abcd"), part(0, 4), 0, 4));
+    CHECK(expression_is(S("abcd"), part(4, 0), 4, 0));
+    CHECK(expression_is(S("abcd"), part(1, 4), 0, 0));
+    CHECK(expression_is(S("abcd"), part(5, 0), 0, 0));
+    CHECK(expression_is(S("abcd"), part(MAX, 0), 0, 0));
+    CHECK(expression_is(S("abcd"), part(2, MAX), 0, 0));
+    CHECK(expression_is(S("abcd"), part(2, MAX - 1), 0, 0));
+    CHECK(expression_is(S("abcd"), part(MAX, MAX), 0, 0));
+    CHECK(expression_is(NO_BYTES, part(0, 0), 0, 0));
+    CHECK(expression_is(NO_BYTES, part(0, 1), 0, 0));
+}
+
+#define LLOOKUP(list, encoding, file_type, offset, address, ...)                                                     \
+    IS(location, yz_location_lookup(list, TABLE, 8, encoding, file_type, offset, 0x100, address), __VA_ARGS__)
 
 static void test_location_lookup(void) {
 #define LIST S("\x08\x10\0\0\0\x08\x01\x50\x04\x01\x02\x01\x51\x09")
-    EIGHT(LLOOKUP(LIST, 4, 5, MAIN, 0, 0x17), DONE, 0, 0, 0x10, 0x18, 7, 1, 0, 0);
-    EIGHT(LLOOKUP(LIST, 4, 5, MAIN, 0, 0x101), DONE, 0, 0, 0x101, 0x102, 12, 1, 0, 0);
-    EIGHT(LLOOKUP(LIST, 4, 5, MAIN, 0, 0x18), REFUSED, 0, 0, YZ_UNKNOWN_LOC_LISTS_ENTRY, 9, 0, 0, 0, 0);
-    EIGHT(LLOOKUP(LIST, 4, 5, MAIN, MAX, 0x17), REFUSED, EOF_WORDS, 0, 0, 0, 0);
-    EIGHT(LLOOKUP(LIST, 3, 5, MAIN, MAX, 0x17), REFUSED, 0, 0, YZ_UNSUPPORTED_ADDRESS_SIZE, 3, 0, 0, 0, 0);
+    LLOOKUP(LIST, little(5, 4), MAIN, 0, 0x17, DONE, 0x10, 0x18, 7, 1);
+    LLOOKUP(LIST, little(5, 4), DWO, 0, 0x101, DONE, 0x101, 0x102, 12, 1);
+    LLOOKUP(LIST, little(5, 4), MAIN, 0, 0x18, REFUSED(YZ_UNKNOWN_LOC_LISTS_ENTRY, 9));
+    LLOOKUP(LIST, little(5, 4), MAIN, MAX, 0x17, CUT_SHORT);
+    LLOOKUP(LIST, little(5, 3), MAIN, MAX, 0x17, BAD_SIZE(3));
 #undef LIST
 #define LIST S("\x03\0\x08\0\0\0\x01\0\x50\0")
-    EIGHT(LLOOKUP(LIST, 4, 4, SPLIT, 0, 0x12), DONE, 0, 0, 0x10, 0x18, 8, 1, 0, 0);
-    EIGHT(LLOOKUP(LIST, 4, 4, SPLIT, 0, 0x18), END, 0, 0, 0, 0, 0, 0, 0, 0);
+    LLOOKUP(LIST, little(4, 4), DWO, 0, 0x12, DONE, 0x10, 0x18, 8, 1);
+    LLOOKUP(LIST, little(4, 4), DWO, 0, 0x18, NOT_THERE);
+    LLOOKUP(LIST, little(4, 4), MAIN, 0, 0x12, CUT_SHORT);
 #undef LIST
-    EIGHT(LLOOKUP(S("\x03\0\x08\0\0\0\x01\0"), 4, 4, SPLIT, 0, 0x12), REFUSED, EOF_WORDS, 0, 0, 0, 0);
-    EIGHT(LLOOKUP(NOTHING, 4, 5, MAIN, 0, 0), END, 0, 0, 0, 0, 0, 0, 0, 0);
-    EIGHT(LLOOKUP(NOTHING, 4, 5, MAIN, 1, 0), REFUSED, EOF_WORDS, 0, 0, 0, 0);
+    LLOOKUP(S("\x03\0\x08\0\0\0\x01\0"), little(4, 4), DWO, 0, 0x12, CUT_SHORT);
+    LLOOKUP(S("\x09\x04\x01\x02\0\0"), little(5, 4), MAIN, 1, 0x101, DONE, 0x101, 0x102, 5, 0);
+    LLOOKUP(NO_BYTES, little(5, 4), MAIN, 0, 0, NOT_THERE);
+    LLOOKUP(NO_BYTES, little(5, 4), MAIN, 1, 0, CUT_SHORT);
 }
 
 /* ---- Coverage ---- */
@@ -697,14 +922,14 @@ static void age(void) {
 #define COVERS(call, n)                                                                                              \
     do {                                                                                                             \
         age();                                                                                                       \
-        FOUR(call, DONE, n, 0, 0, 0);                                                                                \
+        IS(count, call, DONE, n);                                                                                    \
         check(zero_from(&begins, n) && zero_from(&ends, n), __LINE__, "0 past the count: " #call);                   \
     } while (0)
 
-#define REFUSES_COVERAGE(call, number, value)                                                                        \
+#define REFUSES_COVERAGE(call, ...)                                                                                  \
     do {                                                                                                             \
         age();                                                                                                       \
-        FOUR(call, REFUSED, 0, 0, number, value);                                                                    \
+        IS(count, call, __VA_ARGS__);                                                                                \
         check(all_old(&begins, sizeof begins) && all_old(&ends, sizeof ends), __LINE__, "untouched: " #call);        \
     } while (0)
 
@@ -713,40 +938,39 @@ static bool range_is(size_t i, uint64_t begin, uint64_t end) { return begins.at[
 /* n entries `07 begin 01` of address size 4, each begin two above the one before. */
 static uint8_t apart[6 * (YZ_LIMIT + 1)];
 
-static size_t make_apart(size_t n) {
+static const uint8_t *make_apart(size_t n) {
     size_t i;
     for (i = 0; i < n; i++) {
         const uint8_t entry[6] = {7, (uint8_t)(2 * i), (uint8_t)(2 * i / 256), 0, 0, 1};
         memcpy(apart + 6 * i, entry, 6);
     }
-    return 6 * n;
+    return apart;
 }
 
-#define COVER(list, size, offset)                                                                                    \
-    yz_range_coverage(list, TABLE, 8, offset, 0, size, D32, 5, LITTLE, &begins, &ends, &out)
+#define APART(n) make_apart(n), 6 * (n)
+#define COVER(list, encoding, offset) yz_range_coverage(list, TABLE, 8, encoding, offset, 0, &begins, &ends)
 
 static void test_range_coverage(void) {
-    COVERS(COVER(TOUCHING, 4, 0), 1);
+    COVERS(COVER(TOUCHING, little(5, 4), 0), 1);
     CHECK(range_is(0, 0x10, 0x30));
-    COVERS(COVER(S("\x03\x01\x08\x03\0\x04\0"), 4, 0), 2);
+    COVERS(COVER(S("\x03\x01\x08\x03\0\x04\0"), little(5, 4), 0), 2);
     CHECK(range_is(0, 0x10, 0x14) && range_is(1, 0x20, 0x28));
-    COVERS(COVER(NOTHING, 4, 0), 0);
-    COVERS(COVER(S("\0"), 4, 1), 0);
-    (void)make_apart(YZ_LIMIT + 1);
-    COVERS(yz_range_coverage(apart, 6 * YZ_LIMIT, NOTHING, 0, 0, 0, 4, D32, 5, LITTLE, &begins, &ends, &out), YZ_LIMIT);
+    COVERS(COVER(NO_BYTES, little(5, 4), 0), 0);
+    COVERS(COVER(S("\0"), little(5, 4), 1), 0);
+    COVERS(COVER(APART(YZ_LIMIT), little(5, 4), 0), YZ_LIMIT);
     CHECK(range_is(0, 0, 1) && range_is(1023, 2046, 2047));
-    REFUSES_COVERAGE(
-        yz_range_coverage(apart, sizeof apart, NOTHING, 0, 0, 0, 4, D32, 5, LITTLE, &begins, &ends, &out),
-        YZ_TOO_MANY_RANGES, 0);
-    REFUSES_COVERAGE(COVER(S("\x07\x20\0\0\0\x10\x08"), 4, 0), YZ_UNKNOWN_RANGE_LISTS_ENTRY, 8);
-    REFUSES_COVERAGE(COVER(S("\x07\x20\0\0\0\x10\x02\0\x02\0"), 4, 0), YZ_UNEXPECTED_EOF, 0);
-    REFUSES_COVERAGE(COVER(TOUCHING, 4, MAX), YZ_UNEXPECTED_EOF, 0);
-    REFUSES_COVERAGE(COVER(TOUCHING, 3, MAX), YZ_UNSUPPORTED_ADDRESS_SIZE, 3);
-    REFUSES_COVERAGE(COVER(NOTHING, 4, 1), YZ_UNEXPECTED_EOF, 0);
+    COVERS(yz_range_coverage(S("\x09\x01\x03\0\0"), NO_BYTES, 0, big(4, 1), 1, 0x40, &begins, &ends), 1);
+    CHECK(range_is(0, 0x41, 0x43));
+    REFUSES_COVERAGE(COVER(APART(YZ_LIMIT + 1), little(5, 4), 0), REFUSED(YZ_TOO_MANY_RANGES, 0));
+    REFUSES_COVERAGE(COVER(S("\x07\x20\0\0\0\x10\x08"), little(5, 4), 0), REFUSED(YZ_UNKNOWN_RANGE_LISTS_ENTRY, 8));
+    REFUSES_COVERAGE(COVER(S("\x07\x20\0\0\0\x10\x02\0\x02\0"), little(5, 4), 0), CUT_SHORT);
+    REFUSES_COVERAGE(COVER(TOUCHING, little(5, 4), MAX), CUT_SHORT);
+    REFUSES_COVERAGE(COVER(TOUCHING, little(5, 3), MAX), BAD_SIZE(3));
+    REFUSES_COVERAGE(COVER(NO_BYTES, little(5, 4), 1), CUT_SHORT);
 }
 
-#define LCOVER(list, version, split, offset)                                                                         \
-    yz_location_coverage(list, TABLE, 8, offset, 0, 4, D32, version, LITTLE, split, &begins, &ends, &out)
+#define LCOVER(list, encoding, file_type, offset)                                                                    \
+    yz_location_coverage(list, TABLE, 8, encoding, file_type, offset, 0, &begins, &ends)
 
 #define DEFAULTS(n) defaults, 2 * (n)
 
@@ -757,20 +981,23 @@ static void test_location_coverage(void) {
         defaults[i] = 5;
         defaults[i + 1] = 0;
     }
-    COVERS(LCOVER(S("\x04\x01\x02\x01\x50\x04\x02\x04\x01\x51\x04\x06\x07\0\0"), 5, MAIN, 0), 2);
+    COVERS(LCOVER(S("\x04\x01\x02\x01\x50\x04\x02\x04\x01\x51\x04\x06\x07\0\0"), little(5, 4), MAIN, 0), 2);
     CHECK(range_is(0, 1, 4) && range_is(1, 6, 7));
-    COVERS(LCOVER(S("\x03\0\x08\0\0\0\x01\0\x50\0"), 4, SPLIT, 0), 1);
+    COVERS(LCOVER(S("\x03\0\x08\0\0\0\x01\0\x50\0"), little(4, 4), DWO, 0), 1);
     CHECK(range_is(0, 0x10, 0x18));
-    COVERS(LCOVER(DEFAULTS(YZ_LIMIT), 5, MAIN, 0), 1);
+    COVERS(LCOVER(DEFAULTS(YZ_LIMIT), little(5, 4), MAIN, 0), 1);
     CHECK(range_is(0, 0, MAX));
-    COVERS(LCOVER(NOTHING, 4, MAIN, 0), 0);
-    REFUSES_COVERAGE(LCOVER(DEFAULTS(YZ_LIMIT + 1), 5, MAIN, 0), YZ_TOO_MANY_RANGES, 0);
-    REFUSES_COVERAGE(LCOVER(S("\x04\x01\x02\0\x09"), 5, MAIN, 0), YZ_UNKNOWN_LOC_LISTS_ENTRY, 9);
-    REFUSES_COVERAGE(LCOVER(S("\x03\x02\x08\0\0\0\0\0"), 4, SPLIT, 0), YZ_UNEXPECTED_EOF, 0);
-    REFUSES_COVERAGE(LCOVER(S("\0"), 5, MAIN, MAX), YZ_UNEXPECTED_EOF, 0);
+    COVERS(LCOVER(NO_BYTES, little(4, 4), MAIN, 0), 0);
+    COVERS(yz_location_coverage(S("\x09\x04\x01\x02\0\0"), NO_BYTES, 0, little(5, 4), MAIN, 1, 0x100, &begins, &ends), 1);
+    CHECK(range_is(0, 0x101, 0x102));
+    REFUSES_COVERAGE(LCOVER(DEFAULTS(YZ_LIMIT + 1), little(5, 4), MAIN, 0), REFUSED(YZ_TOO_MANY_RANGES, 0));
+    REFUSES_COVERAGE(LCOVER(S("\x04\x01\x02\0\x09"), little(5, 4), MAIN, 0), REFUSED(YZ_UNKNOWN_LOC_LISTS_ENTRY, 9));
+    REFUSES_COVERAGE(LCOVER(S("\x03\x02\x08\0\0\0\0\0"), little(4, 4), DWO, 0), CUT_SHORT);
+    REFUSES_COVERAGE(LCOVER(S("\0"), little(5, 4), MAIN, MAX), CUT_SHORT);
+    REFUSES_COVERAGE(LCOVER(S("\0"), little(5, 0), DWO, MAX), BAD_SIZE(0));
 }
 
-#define FROM_CANONICAL(bytes) yz_coverage_from_canonical(bytes, &begins, &ends, &out)
+#define FROM_CANONICAL(bytes) yz_coverage_from_canonical(bytes, &begins, &ends)
 
 static void test_coverage_from_canonical(void) {
     uint8_t many[10 * (YZ_LIMIT + 1)];
@@ -780,13 +1007,13 @@ static void test_coverage_from_canonical(void) {
     COVERS(FROM_CANONICAL(S(TOUCHING_CANONICAL)), 1);
     CHECK(range_is(0, 0x10, 0x30));
     COVERS(FROM_CANONICAL(S("\0")), 0);
-    COVERS(FROM_CANONICAL(NOTHING), 0);
-    REFUSES_COVERAGE(FROM_CANONICAL(S("\x07\x10\0\0\0\0\0\0\0")), YZ_UNEXPECTED_EOF, 0);
-    REFUSES_COVERAGE(FROM_CANONICAL(S("\x03\0\x08\0")), YZ_UNEXPECTED_EOF, 0);
-    REFUSES_COVERAGE(FROM_CANONICAL(S("\x03\x80\x80\x80\x80\x80\x80\x80\x80\x20\0")), YZ_UNSUPPORTED_OFFSET, 0);
-    REFUSES_COVERAGE(FROM_CANONICAL(S("\x04" NINE "\x02")), YZ_BAD_UNSIGNED_LEB128, 0);
-    REFUSES_COVERAGE(FROM_CANONICAL(S("\x08")), YZ_UNKNOWN_RANGE_LISTS_ENTRY, 8);
-    REFUSES_COVERAGE(yz_coverage_from_canonical(many, sizeof many, &begins, &ends, &out), YZ_TOO_MANY_RANGES, 0);
+    COVERS(FROM_CANONICAL(NO_BYTES), 0);
+    REFUSES_COVERAGE(FROM_CANONICAL(S("\x07\x10\0\0\0\0\0\0\0")), CUT_SHORT);
+    REFUSES_COVERAGE(FROM_CANONICAL(S("\x03\0\x08\0")), CUT_SHORT);
+    REFUSES_COVERAGE(FROM_CANONICAL(S("\x03" INDEX_2_61 "\0")), TOO_FAR);
+    REFUSES_COVERAGE(FROM_CANONICAL(S("\x04" NINE "\x02")), REFUSED(YZ_BAD_UNSIGNED_LEB128, 0));
+    REFUSES_COVERAGE(FROM_CANONICAL(S("\x08")), REFUSED(YZ_UNKNOWN_RANGE_LISTS_ENTRY, 8));
+    REFUSES_COVERAGE(yz_coverage_from_canonical(many, sizeof many, &begins, &ends), REFUSED(YZ_TOO_MANY_RANGES, 0));
 }
 
 static void put_u64(uint8_t *at, uint64_t x) {
@@ -822,8 +1049,8 @@ static size_t make_big_sheet(size_t n) {
     return 4 + 16 * n;
 }
 
-#define FROM_SHEET(...) yz_coverage_from_sheet(__VA_ARGS__, &begins, &ends, &out)
-#define BAD_SHEET(...) REFUSES_COVERAGE(FROM_SHEET(__VA_ARGS__), YZ_BAD_SHEET, 0)
+#define FROM_SHEET(...) yz_coverage_from_sheet(__VA_ARGS__, &begins, &ends)
+#define BAD_SHEET(...) REFUSES_COVERAGE(FROM_SHEET(__VA_ARGS__), REFUSED(YZ_BAD_SHEET, 0))
 
 static void test_coverage_from_sheet(void) {
     size_t len;
@@ -839,7 +1066,7 @@ static void test_coverage_from_sheet(void) {
     BAD_SHEET(big_sheet, len);
     len = make_big_sheet(YZ_LIMIT + 1);
     BAD_SHEET(big_sheet, len);
-    BAD_SHEET(NOTHING);
+    BAD_SHEET(NO_BYTES);
     BAD_SHEET(S("\x01\0\x08\0"));
     BAD_SHEET(S("\0\0\x08"));
     BAD_SHEET(S("\0\0\x08\0\0"));
@@ -858,15 +1085,15 @@ static uint8_t output[YZ_CANONICAL_MAX];
 #define WRITES(call, bytes, n)                                                                                       \
     do {                                                                                                             \
         memset(output, OLD, sizeof output);                                                                          \
-        FOUR(call, DONE, n, 0, 0, 0);                                                                                \
+        IS(count, call, DONE, n);                                                                                    \
         check(memcmp(output, bytes, n) == 0, __LINE__, "the bytes of " #call);                                       \
         check(all_old(output + (n), sizeof output - (n)), __LINE__, "untouched past the result: " #call);            \
     } while (0)
 
-#define REFUSES_OUTPUT(call, number, value)                                                                          \
+#define REFUSES_OUTPUT(call, ...)                                                                                    \
     do {                                                                                                             \
         memset(output, OLD, sizeof output);                                                                          \
-        FOUR(call, REFUSED, 0, 0, number, value);                                                                    \
+        IS(count, call, __VA_ARGS__);                                                                                \
         check(all_old(output, sizeof output), __LINE__, "untouched: " #call);                                        \
     } while (0)
 
@@ -879,26 +1106,28 @@ static void two_ranges(uint64_t a, uint64_t b, uint64_t c, uint64_t d) {
     ends.at[1] = d;
 }
 
-typedef uint64_t writer(uint64_t, const yz_bounds *, const yz_bounds *, uint8_t *, size_t, yz_words4 *);
+typedef yz_count writer(uint64_t, const yz_bounds *, const yz_bounds *, uint8_t *, size_t);
 
-#define WRITE(n, len) write(n, &begins, &ends, output, len, &out)
+#define WRITE(n, len) write(n, &begins, &ends, output, len)
+#define NO_ROOM REFUSED(YZ_NO_SPACE, 0)
+#define UNLAWFUL(n, len) REFUSES_OUTPUT(WRITE(n, len), REFUSED(YZ_BAD_SHEET, 0))
 
 static void refuses_unlawful(writer *write) {
     two_ranges(2, 2, 0, 0);
-    REFUSES_OUTPUT(WRITE(1, 64), YZ_BAD_SHEET, 0);
-    REFUSES_OUTPUT(WRITE(1, 0), YZ_BAD_SHEET, 0);
+    UNLAWFUL(1, 64);
+    UNLAWFUL(1, 0);
     two_ranges(3, 2, 0, 0);
-    REFUSES_OUTPUT(WRITE(1, 64), YZ_BAD_SHEET, 0);
+    UNLAWFUL(1, 64);
     two_ranges(0, 2, 2, 4);
-    REFUSES_OUTPUT(WRITE(2, 64), YZ_BAD_SHEET, 0);
+    UNLAWFUL(2, 64);
     two_ranges(4, 5, 0, 1);
-    REFUSES_OUTPUT(WRITE(2, 64), YZ_BAD_SHEET, 0);
+    UNLAWFUL(2, 64);
     two_ranges(MAX - 1, MAX, 0, 0);
-    REFUSES_OUTPUT(WRITE(1, 64), YZ_BAD_SHEET, 0);
+    UNLAWFUL(1, 64);
     two_ranges(0x10, 0x30, 0x40, 0x50);
-    REFUSES_OUTPUT(WRITE(3, 64), YZ_BAD_SHEET, 0);
-    REFUSES_OUTPUT(WRITE(YZ_LIMIT + 1, sizeof output), YZ_BAD_SHEET, 0);
-    REFUSES_OUTPUT(WRITE(MAX, sizeof output), YZ_BAD_SHEET, 0);
+    UNLAWFUL(3, 64);
+    UNLAWFUL(YZ_LIMIT + 1, sizeof output);
+    UNLAWFUL(MAX, sizeof output);
 }
 
 static void test_sheet(void) {
@@ -908,8 +1137,8 @@ static void test_sheet(void) {
     WRITES(WRITE(1, 20), TOUCHING_SHEET, 20);
     WRITES(WRITE(1, 64), TOUCHING_SHEET, 20);
     WRITES(WRITE(0, 4), "\0\0\x08", 4);
-    REFUSES_OUTPUT(WRITE(1, 19), YZ_NO_SPACE, 0);
-    REFUSES_OUTPUT(write(0, &begins, &ends, NOTHING, &out), YZ_NO_SPACE, 0);
+    REFUSES_OUTPUT(WRITE(1, 19), NO_ROOM);
+    REFUSES_OUTPUT(write(0, &begins, &ends, NO_BYTES), NO_ROOM);
     refuses_unlawful(write);
     for (i = 0; i < YZ_LIMIT; i++) {
         begins.at[i] = 2 * i;
@@ -924,8 +1153,8 @@ static void test_canonical(void) {
     WRITES(WRITE(1, 11), TOUCHING_CANONICAL, 11);
     WRITES(WRITE(1, 64), TOUCHING_CANONICAL, 11);
     WRITES(WRITE(0, 1), "", 1);
-    REFUSES_OUTPUT(WRITE(1, 10), YZ_NO_SPACE, 0);
-    REFUSES_OUTPUT(write(0, &begins, &ends, NOTHING, &out), YZ_NO_SPACE, 0);
+    REFUSES_OUTPUT(WRITE(1, 10), NO_ROOM);
+    REFUSES_OUTPUT(write(0, &begins, &ends, NO_BYTES), NO_ROOM);
     two_ranges(0, 0x7f, 0x80, 0x100);
     WRITES(WRITE(2, 22), "\x07\0\0\0\0\0\0\0\0\x7f\x07\x80\0\0\0\0\0\0\0\x80\x01", 22);
     two_ranges(0, MAX, 0, 0);
@@ -933,39 +1162,61 @@ static void test_canonical(void) {
     refuses_unlawful(write);
 }
 
-#define CANONICAL(list, size, offset, len)                                                                           \
-    yz_range_canonical(list, TABLE, 8, offset, 0, size, D32, 5, LITTLE, output, len, &out)
+#define CANONICAL(list, encoding, offset, len) yz_range_canonical(list, TABLE, 8, encoding, offset, 0, output, len)
 
 static void test_range_canonical(void) {
-    WRITES(CANONICAL(TOUCHING, 4, 0, 11), TOUCHING_CANONICAL, 11);
-    WRITES(CANONICAL(TOUCHING, 4, 0, 64), TOUCHING_CANONICAL, 11);
-    WRITES(CANONICAL(S("\x03\0\x20\0"), 4, 0, 64), TOUCHING_CANONICAL, 11);
-    WRITES(CANONICAL(NOTHING, 4, 0, 1), "", 1);
-    REFUSES_OUTPUT(CANONICAL(TOUCHING, 4, 0, 10), YZ_NO_SPACE, 0);
-    REFUSES_OUTPUT(CANONICAL(S("\0"), 4, 0, 0), YZ_NO_SPACE, 0);
-    REFUSES_OUTPUT(CANONICAL(S("\x08"), 4, 0, 0), YZ_UNKNOWN_RANGE_LISTS_ENTRY, 8);
-    REFUSES_OUTPUT(CANONICAL(S("\x07\x20\0\0\0\x10\x02\0\x02\0"), 4, 0, 64), YZ_UNEXPECTED_EOF, 0);
-    REFUSES_OUTPUT(CANONICAL(TOUCHING, 4, MAX, 64), YZ_UNEXPECTED_EOF, 0);
-    REFUSES_OUTPUT(CANONICAL(TOUCHING, 7, MAX, 64), YZ_UNSUPPORTED_ADDRESS_SIZE, 7);
-    (void)make_apart(YZ_LIMIT + 1);
-    REFUSES_OUTPUT(yz_range_canonical(apart, sizeof apart, NOTHING, 0, 0, 0, 4, D32, 5, LITTLE, output, 64, &out),
-                   YZ_TOO_MANY_RANGES, 0);
+    WRITES(CANONICAL(TOUCHING, little(5, 4), 0, 11), TOUCHING_CANONICAL, 11);
+    WRITES(CANONICAL(TOUCHING, little(5, 4), 0, 64), TOUCHING_CANONICAL, 11);
+    WRITES(CANONICAL(S("\x03\0\x20\0"), little(5, 4), 0, 64), TOUCHING_CANONICAL, 11);
+    WRITES(CANONICAL(NO_BYTES, little(5, 4), 0, 1), "", 1);
+    WRITES(yz_range_canonical(S("\x09\x01\x21\0\0"), NO_BYTES, 0, big(4, 1), 1, 0x0f, output, 64), TOUCHING_CANONICAL, 11);
+    REFUSES_OUTPUT(CANONICAL(TOUCHING, little(5, 4), 0, 10), NO_ROOM);
+    REFUSES_OUTPUT(yz_range_canonical(TOUCHING, NO_BYTES, 0, little(5, 4), 0, 0, NO_BYTES), NO_ROOM);
+    REFUSES_OUTPUT(CANONICAL(S("\0"), little(5, 4), 0, 0), NO_ROOM);
+    REFUSES_OUTPUT(CANONICAL(S("\x08"), little(5, 4), 0, 0), REFUSED(YZ_UNKNOWN_RANGE_LISTS_ENTRY, 8));
+    REFUSES_OUTPUT(CANONICAL(S("\x07\x20\0\0\0\x10\x02\0\x02\0"), little(5, 4), 0, 64), CUT_SHORT);
+    REFUSES_OUTPUT(CANONICAL(TOUCHING, little(5, 4), MAX, 64), CUT_SHORT);
+    REFUSES_OUTPUT(CANONICAL(TOUCHING, little(5, 7), MAX, 64), BAD_SIZE(7));
+    REFUSES_OUTPUT(CANONICAL(APART(YZ_LIMIT + 1), little(5, 4), 0, 64), REFUSED(YZ_TOO_MANY_RANGES, 0));
 }
 
-#define LCANONICAL(list, version, split, offset, len)                                                                \
-    yz_location_canonical(list, TABLE, 8, offset, 0, 4, D32, version, LITTLE, split, output, len, &out)
+#define LCANONICAL(list, encoding, file_type, offset, len)                                                           \
+    yz_location_canonical(list, TABLE, 8, encoding, file_type, offset, 0, output, len)
 
 static void test_location_canonical(void) {
-    WRITES(LCANONICAL(S("\x03\0\x20\0\0\0\x01\0\x50\0"), 4, SPLIT, 0, 64), TOUCHING_CANONICAL, 11);
-    WRITES(LCANONICAL(S("\x04\x10\x30\0\0"), 5, MAIN, 0, 11), TOUCHING_CANONICAL, 11);
-    WRITES(LCANONICAL(NOTHING, 5, MAIN, 0, 1), "", 1);
-    REFUSES_OUTPUT(LCANONICAL(S("\x04\x10\x30\0\0"), 5, MAIN, 0, 10), YZ_NO_SPACE, 0);
-    REFUSES_OUTPUT(LCANONICAL(S("\x03\0\x20\0\0\0\x01\0\x50\0"), 4, MAIN, 0, 64), YZ_UNEXPECTED_EOF, 0);
-    REFUSES_OUTPUT(LCANONICAL(S("\x09"), 5, MAIN, 0, 0), YZ_UNKNOWN_LOC_LISTS_ENTRY, 9);
-    REFUSES_OUTPUT(LCANONICAL(S("\x04\x10\x30\0\0"), 5, MAIN, MAX, 64), YZ_UNEXPECTED_EOF, 0);
+#define LIST S("\x03\0\x20\0\0\0\x01\0\x50\0")
+    WRITES(LCANONICAL(LIST, little(4, 4), DWO, 0, 64), TOUCHING_CANONICAL, 11);
+    WRITES(LCANONICAL(S("\x04\x10\x30\0\0"), little(5, 4), MAIN, 0, 11), TOUCHING_CANONICAL, 11);
+    WRITES(LCANONICAL(NO_BYTES, little(5, 4), MAIN, 0, 1), "", 1);
+    WRITES(yz_location_canonical(S("\x09\x04\0\x20\0\0"), NO_BYTES, 0, little(5, 4), MAIN, 1, 0x10, output, 11),
+           TOUCHING_CANONICAL, 11);
+    REFUSES_OUTPUT(LCANONICAL(S("\x04\x10\x30\0\0"), little(5, 4), MAIN, 0, 10), NO_ROOM);
+    REFUSES_OUTPUT(LCANONICAL(LIST, little(4, 4), MAIN, 0, 64), CUT_SHORT);
+    REFUSES_OUTPUT(LCANONICAL(S("\x09"), little(5, 4), MAIN, 0, 0), REFUSED(YZ_UNKNOWN_LOC_LISTS_ENTRY, 9));
+    REFUSES_OUTPUT(LCANONICAL(S("\x04\x10\x30\0\0"), little(5, 4), MAIN, MAX, 64), CUT_SHORT);
+    REFUSES_OUTPUT(LCANONICAL(LIST, little(4, 7), DWO, MAX, 64), BAD_SIZE(7));
+#undef LIST
+}
+
+static void test_is_canonical(void) {
+    CHECK(yz_is_canonical(S(TOUCHING_CANONICAL)));
+    CHECK(yz_is_canonical(S("\0")));
+    CHECK(yz_is_canonical(S("\x07\0\0\0\0\0\0\0\0\x7f\x07\x80\0\0\0\0\0\0\0\x80\x01\0")));
+    CHECK(yz_is_canonical(S("\x07\0\0\0\0\0\0\0\0\xff\xff\xff\xff\xff\xff\xff\xff\xff\x01\0")));
+    CHECK(!yz_is_canonical(NO_BYTES));
+    CHECK(!yz_is_canonical(S("\x07\x10\0\0\0\0\0\0\0\x20")));
+    CHECK(!yz_is_canonical(S(TOUCHING_CANONICAL "\0")));
+    CHECK(!yz_is_canonical(S("\x07\x10\0\0\0\0\0\0\0\xa0\0\0")));
+    CHECK(!yz_is_canonical(S("\x07\x10\0\0\0\0\0\0\0\0\0")));
+    CHECK(!yz_is_canonical(S("\x07\x01\0\0\0\0\0\0\0\xff\xff\xff\xff\xff\xff\xff\xff\xff\x01\0")));
+    CHECK(!yz_is_canonical(S("\x07\x10\0\0\0\0\0\0\0\x10\x07\x20\0\0\0\0\0\0\0\x10\0")));
+    CHECK(!yz_is_canonical(S("\x07\xfe\xff\xff\xff\xff\xff\xff\xff\x01\0")));
+    CHECK(!yz_is_canonical(S("\x04\x10\x30\0")));
+    CHECK(!yz_is_canonical(S("\x08")));
 }
 
 static const struct { const char *name; void (*run)(void); } tests[] = {
+    {"yz_version", test_version},
     {"yz_uleb128", test_uleb128},
     {"yz_read_u8", test_read_u8},
     {"yz_read_u16", test_read_u16},
@@ -989,6 +1240,7 @@ static const struct { const char *name; void (*run)(void); } tests[] = {
     {"yz_range_default_base", test_range_default_base},
     {"yz_location_get_offset", test_location_get_offset},
     {"yz_location_default_base", test_location_default_base},
+    {"yz_section_of", test_section_of},
     {"yz_range_open", test_range_open},
     {"yz_range_next", test_range_next},
     {"yz_range_next_raw", test_range_next_raw},
@@ -998,6 +1250,7 @@ static const struct { const char *name; void (*run)(void); } tests[] = {
     {"yz_location_next", test_location_next},
     {"yz_location_next_raw", test_location_next_raw},
     {"yz_location_convert_raw", test_location_convert_raw},
+    {"yz_expression", test_expression},
     {"yz_location_lookup", test_location_lookup},
     {"yz_range_coverage", test_range_coverage},
     {"yz_location_coverage", test_location_coverage},
@@ -1007,6 +1260,7 @@ static const struct { const char *name; void (*run)(void); } tests[] = {
     {"yz_canonical", test_canonical},
     {"yz_range_canonical", test_range_canonical},
     {"yz_location_canonical", test_location_canonical},
+    {"yz_is_canonical", test_is_canonical},
 };
 
 int main(int argc, char **argv) {
@@ -1015,6 +1269,11 @@ int main(int argc, char **argv) {
     if (argc > 1 && strcmp(argv[1], "--list") == 0) {
         for (i = 0; i < count; i++)
             puts(tests[i].name);
+        return 0;
+    }
+    if (argc > 1 && strcmp(argv[1], "--refusals") == 0) {
+        for (i = YZ_UNEXPECTED_EOF; i <= YZ_BAD_SHEET; i++)
+            printf("%u %s\n", (unsigned)i, yz_refusal_name((yz_refusal)i));
         return 0;
     }
     for (i = 0; i < count; i++) {

@@ -1,5 +1,6 @@
 //! Each export through the wrapper, on good and on bad input. The expected values are DWARF's and
-//! document 01's, worked out by hand. A test has its export's name; `--list` prints the names.
+//! document 01's, worked out by hand. A test has its export's name; `--list` prints the names,
+//! `--refusals` the refusals' numbers and names.
 
 use std::fmt::Debug;
 use std::process::ExitCode;
@@ -26,7 +27,11 @@ impl Checks {
     }
 }
 
-const TESTS: &[(&str, fn(&mut Checks))] = &[
+/// A name, and what is run.
+type Test = (&'static str, fn(&mut Checks));
+
+const TESTS: &[Test] = &[
+    ("yz_version", versions),
     ("yz_uleb128", uleb128),
     ("yz_read_u8", read_u8),
     ("yz_read_u16", read_u16),
@@ -50,6 +55,7 @@ const TESTS: &[(&str, fn(&mut Checks))] = &[
     ("yz_range_default_base", range_default_base),
     ("yz_location_get_offset", location_get_offset),
     ("yz_location_default_base", location_default_base),
+    ("yz_section_of", section_of),
     ("yz_range_open", range_open),
     ("yz_range_next", range_next),
     ("yz_range_next_raw", range_next_raw),
@@ -59,6 +65,7 @@ const TESTS: &[(&str, fn(&mut Checks))] = &[
     ("yz_location_next", location_next),
     ("yz_location_next_raw", location_next_raw),
     ("yz_location_convert_raw", location_convert_raw),
+    ("yz_expression", expression),
     ("yz_location_lookup", location_lookup),
     ("yz_range_coverage", range_coverage),
     ("yz_location_coverage", location_coverage),
@@ -68,6 +75,15 @@ const TESTS: &[(&str, fn(&mut Checks))] = &[
     ("yz_canonical", canonical),
     ("yz_range_canonical", range_canonical),
     ("yz_location_canonical", location_canonical),
+    ("yz_is_canonical", is_canonical),
+];
+
+/// What the wrapper has beside its calls.
+const MORE_TESTS: &[Test] = &[
+    ("Error", errors),
+    ("Error::MixedByteOrders", byte_orders),
+    ("Iterator", iterators),
+    ("the end of every walk", ends),
 ];
 
 fn main() -> ExitCode {
@@ -75,12 +91,15 @@ fn main() -> ExitCode {
         TESTS.iter().for_each(|(name, _)| println!("{name}"));
         return ExitCode::SUCCESS;
     }
+    if std::env::args().any(|word| word == "--refusals") {
+        (1..=12).for_each(|n| println!("{n} {}", Error::from_number(n, 0).name()));
+        return ExitCode::SUCCESS;
+    }
     let mut checks = Checks::default();
-    for (name, test) in TESTS {
+    for (name, test) in TESTS.iter().chain(MORE_TESTS) {
         checks.test = name;
         test(&mut checks);
     }
-    errors(&mut checks);
     println!(
         "test.rs: {} exports, {} passed, {} failed",
         TESTS.len(),
@@ -118,12 +137,26 @@ fn join(parts: &[&[u8]]) -> Vec<u8> {
     parts.concat()
 }
 
+fn versions(c: &mut Checks) {
+    c.same(version(), VERSION);
+    c.same(VERSION, 2);
+}
+
 fn errors(c: &mut Checks) {
-    c.test = "Error";
     let e = Error::UnknownLocListsEntry(9);
     c.same((e.number(), e.value(), e.name()), (4, Some(9), "UnknownLocListsEntry"));
     c.same(e.to_string(), "4 UnknownLocListsEntry 0x9".to_string());
     c.same((EOF.number(), EOF.value(), EOF.to_string()), (1, None, "1 UnexpectedEof".to_string()));
+    for number in 0..20 {
+        let e = Error::from_number(number, 7);
+        c.same((e.number(), e.value().unwrap_or(7)), (number, 7));
+        c.same(e == Error::Unknown(number, 7), !(1..=12).contains(&number));
+    }
+    let unknown = Error::from_number(u64::MAX, u64::MAX);
+    c.same(unknown, Error::Unknown(u64::MAX, u64::MAX));
+    c.same(Error::from_number(13, 9).to_string(), "13 Unknown 0x9".to_string());
+    let mixed = Error::MixedByteOrders;
+    c.same((mixed.number(), mixed.value(), mixed.name()), (0, None, "MixedByteOrders"));
 }
 
 // Reads
@@ -507,6 +540,26 @@ fn range_open(c: &mut Checks) {
     c.same((apart.debug_ranges().reader().len(), apart.debug_rnglists().reader().len()), (4, 0));
 }
 
+fn section_of(c: &mut Checks) {
+    let (offset, none, base) = (RangeListsOffset(0), DebugAddr::default(), DebugAddrBase(0));
+    let ranges = RangeLists::new(
+        DebugRanges::new(&[1, 2, 0, 0], Little),
+        DebugRngLists::new(&[6, 3, 4, 0], Big),
+    );
+    let locations = LocationLists::new(
+        DebugLoc::new(&[1, 2, 0, 0], Little),
+        DebugLocLists::new(&[7, 3, 4, 0, 0], Big),
+    );
+    for (version, range) in [(0, at(1, 2)), (4, at(1, 2)), (5, at(3, 4)), (65535, at(3, 4))] {
+        let found = ranges.lookup(offset, encoding(version, 1), 0, &none, base, range.begin);
+        c.same(found, Ok(Some(range)));
+        let (offset, main) = (LocationListsOffset(0), DwarfFileType::Main);
+        let found =
+            locations.lookup(offset, encoding(version, 1), main, 0, &none, base, range.begin);
+        c.same(found.map(|l| l.map(|l| l.range)), Ok(Some(range)));
+    }
+}
+
 /// 2^61 as LEB128: times 8 it is 2^64.
 const INDEX_2_61: [u8; 9] = [0x80, 0x80, 0x80, 0x80, 0x80, 0x80, 0x80, 0x80, 0x20];
 
@@ -649,8 +702,8 @@ fn range_lookup(c: &mut Checks) {
     let got = big.lookup(RangeListsOffset(0), encoding(5, 4), 0, &table, DebugAddrBase(8), 0x10);
     c.same(got, Ok(Some(at(0x10, 0x18))));
     let bare = range_lists(&[1, 3, 0, 0], Little);
-    let got =
-        bare.lookup(RangeListsOffset(0), encoding(4, 1), 0x40, &table, DebugAddrBase(8), 0x42);
+    let none = DebugAddr::default();
+    let got = bare.lookup(RangeListsOffset(0), encoding(4, 1), 0x40, &none, DebugAddrBase(8), 0x42);
     c.same(got, Ok(Some(at(0x41, 0x43))));
 }
 
@@ -815,6 +868,9 @@ fn location_next_raw(c: &mut Checks) {
     c.same(walk.next().map(|raw| raw.map(Ok).map(bytes_of)), Ok(Some(Ok((3, 1, 2, none, 8)))));
     c.same(walk.next(), Ok(None));
     let bare = &[0xff, 0x20, 3, 5, 1, 0, 0x50, 0, 0, 1];
+    let plain = location_lists(bare, Little);
+    let mut walk = plain.raw_locations(LocationListsOffset(2), encoding(4, 1)).unwrap();
+    c.same(walk.next().map(|raw| raw.map(Ok).map(bytes_of)), Ok(Some(Ok((0, 3, 5, &[0x50], 6)))));
     c.same(
         raw(bare, encoding(4, 1), false),
         vec![Ok((6, 0x20, 0, none, 0)), Ok((0, 3, 5, &[0x50], 6))],
@@ -853,6 +909,23 @@ fn location_convert_raw(c: &mut Checks) {
     let raw = walk.next_raw().unwrap().unwrap();
     c.same(walk.convert_raw(raw).map(|l| l.map(told)), Ok(Some((at(0x21, 0x22), &[0x50][..], 4))));
     c.same(walk.next(), Ok(None));
+}
+
+fn expression(c: &mut Checks) {
+    let section = [1, 2, 3, 4];
+    let lying = |offset, length| {
+        let expression = Expression::in_section(&section, offset, length);
+        (expression.bytes(), expression.offset())
+    };
+    c.same(lying(1, 2), (&[2, 3][..], 1));
+    c.same(lying(0, 4), (&section[..], 0));
+    c.same(lying(4, 0), (&[][..], 4));
+    for (offset, length) in [(1, 4), (5, 0), (u64::MAX, 0), (2, u64::MAX), (u64::MAX, u64::MAX)] {
+        c.same(lying(offset, length), (&[][..], 0));
+    }
+    c.same(Expression::in_section(&[], 0, 0).bytes(), &[][..]);
+    let own = Expression::new(&section);
+    c.same((own.bytes(), own.offset()), (&section[..], 0));
 }
 
 fn location_lookup(c: &mut Checks) {
@@ -950,6 +1023,10 @@ fn location_coverage(c: &mut Checks) {
     c.same(cover(&[3, 2, 8, 0, 0, 0, 0, 0], 4, dwo), Err(EOF));
     c.same(cover(&[5, 0].repeat(1025), 5, main), Err(Error::TooManyRanges));
     c.same(cover(&[5, 0].repeat(1024), 5, main), Ok(vec![at(0, u64::MAX)]));
+    let (lists, none) = (location_lists(&[9, 4, 1, 2, 0, 0], Little), DebugAddr::default());
+    let (offset, five, base) = (LocationListsOffset(1), encoding(5, 4), DebugAddrBase(0));
+    let coverage = lists.coverage(offset, five, main, 0x100, &none, base);
+    c.same(is(coverage), Ok(vec![at(0x101, 0x102)]));
 }
 
 fn coverage_from_canonical(c: &mut Checks) {
@@ -1104,4 +1181,157 @@ fn location_canonical(c: &mut Checks) {
     c.same(write(&[9], 5, main, 0, 0), untouched(0, Error::UnknownLocListsEntry(9)));
     c.same(write(&gnu, 4, dwo, u64::MAX, 16), untouched(16, EOF));
     c.same(write(&[5, 0].repeat(1025), 5, main, 0, 16), untouched(16, Error::TooManyRanges));
+}
+
+fn is_canonical(c: &mut Checks) {
+    let canonical = |bytes: &[u8]| CanonicalList::new(bytes).is_canonical();
+    let entry = |begin: u64, length: &[u8]| join(&[&[7], &begin.to_le_bytes(), length]);
+    let most = join(&[&[0xff; 9], &[1]]);
+    let apart =
+        |n: u64| join(&[&(0..n).flat_map(|i| entry(2 * i, &[1])).collect::<Vec<_>>(), &[0]]);
+    c.same(canonical(TOUCHING_CANONICAL), true);
+    c.same(canonical(&[0]), true);
+    c.same(canonical(&join(&[&entry(0, &[0x7f]), &entry(0x80, &[0x80, 1]), &[0]])), true);
+    c.same(canonical(&join(&[&entry(0, &most), &[0]])), true);
+    c.same(canonical(&apart(1024)), true);
+    for unlike in [
+        // Nothing, no end mark, a byte after it, an end mark alone that is cut off.
+        vec![],
+        TOUCHING_CANONICAL[..10].to_vec(),
+        join(&[TOUCHING_CANONICAL, &[0]]),
+        TOUCHING_CANONICAL[..9].to_vec(),
+        // A length in more bytes than it needs, of 0, past the last address, or of eleven bytes.
+        join(&[&entry(0x10, &[0xa0, 0]), &[0]]),
+        join(&[&entry(0x10, &[0]), &[0]]),
+        join(&[&entry(1, &most), &[0]]),
+        join(&[&entry(0, &[0xff; 10]), &[0]]),
+        // Ranges that touch, overlap or descend; more than a coverage has; one at the tombstones.
+        join(&[&entry(0x10, &[0x10]), &entry(0x20, &[0x10]), &[0]]),
+        join(&[&entry(0x10, &[0x20]), &entry(0x20, &[0x20]), &[0]]),
+        join(&[&entry(0x20, &[1]), &entry(0x10, &[1]), &[0]]),
+        apart(1025),
+        join(&[&entry(u64::MAX - 1, &[1]), &[0]]),
+        // The same range by another kind, and a kind that isn't there.
+        join(&[&[6], &0x10u64.to_le_bytes(), &0x30u64.to_le_bytes(), &[0]]),
+        vec![4, 0x10, 0x30, 0],
+        vec![8],
+    ] {
+        c.same(canonical(&unlike), false);
+    }
+}
+
+// Beside the calls
+
+/// Every call over a list and a table in two orders says so; a table without bytes has no order.
+fn byte_orders(c: &mut Checks) {
+    let bytes = [3, 0, 8, 0, 0];
+    let mixed = Error::MixedByteOrders;
+    for (endian, other, own) in [(Little, Big, TABLE), (Big, Little, BIG_TABLE)] {
+        let (ranges, locations) = (range_lists(&bytes, endian), location_lists(&bytes, endian));
+        let (at_0, base, main) = (RangeListsOffset(0), DebugAddrBase(8), DwarfFileType::Main);
+        let (l_at_0, five, mut output) = (LocationListsOffset(0), encoding(5, 4), [0xee; 16]);
+        let table = DebugAddr::new(TABLE, other);
+        c.same(ranges.ranges(at_0, five, 0, &table, base).map(|_| ()), Err(mixed));
+        c.same(ranges.lookup(at_0, five, 0, &table, base, 0), Err(mixed));
+        c.same(ranges.coverage(at_0, five, 0, &table, base), Err(mixed));
+        c.same(ranges.canonical(at_0, five, 0, &table, base, &mut output), Err(mixed));
+        c.same(locations.locations(l_at_0, five, 0, &table, base).map(|_| ()), Err(mixed));
+        c.same(locations.locations_dwo(l_at_0, five, 0, &table, base).map(|_| ()), Err(mixed));
+        c.same(locations.lookup(l_at_0, five, main, 0, &table, base, 0), Err(mixed));
+        c.same(locations.coverage(l_at_0, five, main, 0, &table, base), Err(mixed));
+        c.same(locations.canonical(l_at_0, five, main, 0, &table, base, &mut output), Err(mixed));
+        c.same(output, [0xee; 16]);
+        // Before every refusal of the library.
+        let nowhere = RangeListsOffset(u64::MAX);
+        c.same(ranges.lookup(nowhere, encoding(5, 3), 0, &table, base, 0), Err(mixed));
+        let found = Ok(Some(at(0x10, 0x18)));
+        c.same(ranges.lookup(at_0, five, 0, &DebugAddr::new(own, endian), base, 0x10), found);
+        let empty = DebugAddr::new(&[], other);
+        c.same(ranges.lookup(at_0, five, 0, &empty, DebugAddrBase(0), 0), Err(EOF));
+        c.same(ranges.coverage(RangeListsOffset(4), five, 0, &empty, base).map(|x| x.len()), Ok(0));
+    }
+    // Each of two sections has its own order; that of the section that is read counts.
+    let lists = RangeLists::new(
+        DebugRanges::new(&[1, 2, 0, 0], Big),
+        DebugRngLists::new(&[3, 0, 8, 0], Little),
+    );
+    let (at_0, table, base) =
+        (RangeListsOffset(0), DebugAddr::new(TABLE, Little), DebugAddrBase(8));
+    let looked = |version, size, address| {
+        lists.lookup(at_0, encoding(version, size), 0, &table, base, address)
+    };
+    c.same(looked(5, 4, 0x10), Ok(Some(at(0x10, 0x18))));
+    c.same(looked(4, 1, 1), Err(mixed));
+}
+
+fn iterators(c: &mut Checks) {
+    let raw: Vec<_> = range_lists(RANGE_KINDS, Little)
+        .raw_ranges(RangeListsOffset(0), encoding(5, 1))
+        .unwrap()
+        .collect();
+    c.same(raw, range_kinds().into_iter().map(Ok).collect());
+    // Past a failed lookup there are further items, past a kind that isn't there none.
+    let walk = open_ranges(&[2, 0, 2, 3, 0, 8, 8, 3, 0, 8], encoding(5, 4), 0);
+    let unknown = Err(Error::UnknownRangeListsEntry(8));
+    c.same(walk.collect::<Vec<_>>(), vec![Err(EOF), Ok(at(0x10, 0x18)), unknown]);
+    let walk = open_ranges(&[2, 0, 2, 3, 0, 8, 0], encoding(5, 4), 0);
+    c.same(walk.collect::<Result<Vec<_>>>(), Err(EOF));
+    let walk = open_locations(&[3, 2, 8, 0, 3, 0, 8, 1, 0x50, 9], encoding(5, 4), false, 0);
+    let all: Vec<_> = walk.map(|item| item.map(told)).collect();
+    let unknown = Err(Error::UnknownLocListsEntry(9));
+    c.same(all, vec![Err(EOF), Ok((at(0x10, 0x18), &[0x50][..], 8)), unknown]);
+    let lists = location_lists(LOCATION_KINDS, Little);
+    let raw = lists.raw_locations(LocationListsOffset(0), encoding(5, 1)).unwrap();
+    c.same(raw.filter_map(Result::ok).count(), 8);
+    let addresses: Vec<_> = DebugAddr::new(TABLE, Little)
+        .headers()
+        .filter_map(Result::ok)
+        .flat_map(|header| header.entries())
+        .collect();
+    c.same(addresses, vec![Ok(0x10), Ok(0x20)]);
+    let cut = join(&[TABLE, &TABLE[..15]]);
+    let headers = DebugAddr::new(&cut, Little).headers().map(|header| header.map(|_| ()));
+    c.same(headers.collect::<Vec<_>>(), vec![Ok(()), Err(EOF)]);
+}
+
+/// Whatever its bytes and its encoding, a walk is refused when it is opened or has an end, which
+/// stays: no more items than bytes, since each call reads one at least.
+fn ends(c: &mut Checks) {
+    let mut seed = 1u64;
+    let mut byte = || {
+        seed = seed.wrapping_mul(6364136223846793005).wrapping_add(1442695040888963407);
+        (seed >> 56) as u8
+    };
+    let table = DebugAddr::new(TABLE, Little);
+    let (base, at_0, l_at_0) = (DebugAddrBase(8), RangeListsOffset(0), LocationListsOffset(0));
+    for size in 0..=255 {
+        // Few kinds are above 8, so that many entries are met.
+        let bytes: Vec<u8> =
+            (0..200).map(|_| if byte() < 250 { byte() % 9 } else { byte() }).collect();
+        let (ranges, locations) = (range_lists(&bytes, Little), location_lists(&bytes, Little));
+        for version in [0, 4, 5, 65535] {
+            let encoding = encoding(version, size);
+            let walks = [
+                ranges.ranges(at_0, encoding, 0, &table, base).map(items),
+                ranges.raw_ranges(at_0, encoding).map(items),
+                locations.locations(l_at_0, encoding, 0, &table, base).map(items),
+                locations.locations_dwo(l_at_0, encoding, 0, &table, base).map(items),
+                locations.raw_locations(l_at_0, encoding).map(items),
+                locations.raw_locations_dwo(l_at_0, encoding).map(items),
+            ];
+            for items in walks {
+                if [1, 2, 4, 8].contains(&size) {
+                    c.same(items.is_ok_and(|items| items <= bytes.len()), true);
+                } else {
+                    c.same(items, Err(Error::UnsupportedAddressSize(size.into())));
+                }
+            }
+        }
+    }
+}
+
+/// How many items a walk has; more than there can be where its end does not stay.
+fn items(mut walk: impl Iterator) -> usize {
+    let items = walk.by_ref().take(1000).count();
+    if walk.next().is_none() { items } else { usize::MAX }
 }

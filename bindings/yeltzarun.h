@@ -1,25 +1,43 @@
-/* Range lists, location lists and address tables of DWARF 3 to 5: the interface for C99 and C++.
+/* Range lists, location lists and address tables of DWARF 3 to 5: the interface for C99, C11 and C++11.
  *
  * Every call ends, reads no byte outside the bytes that it is lent, and answers every input; nothing has to be checked
  * before it. The caller sees to it that a pointer and its length name readable bytes (the pointer may be NULL where the
- * length is 0), that a pointer to words or bounds is not NULL, that what a call writes to can be written and shares no byte
- * with anything else that it is lent, and that no other thread writes what is lent. The library is for x86-64: size_t has 64
- * bits. The calls over coverages take about 100 KB of stack, the others less than 1 KB.
+ * length is 0), that a pointer to a walk, a place, a part or bounds is not NULL, that what a call writes to can be written
+ * and shares no byte with anything else that it is lent, and that no other thread writes what is lent. The library is for
+ * x86-64. The calls over coverages take about 100 KB of stack, the others less than 1 KB.
  *
- * A call gives one of the result codes and fills the words of its array. With YZ_REFUSED, w[2] has the refusal's number and
- * w[3] its value, 0 where it has none. Words that are not named are 0.
+ * An answer is a struct. It begins with `result`; with YZ_REFUSED, `refusal` is the refusal's number and `refusal_value` its
+ * value, 0 where it has none. Fields that the result does not name are 0. What a call may be refused with stands at the call.
  *
- * Arguments that many calls have:
- *   section, section_len          the bytes of .debug_ranges, .debug_rnglists, .debug_loc or .debug_loclists (or .dwo)
- *   debug_addr, debug_addr_len    the bytes of .debug_addr; length 0 where there is none
- *   debug_addr_base               DW_AT_addr_base: where the addresses of the unit's table begin
- *   offset                        where the list begins in the section
- *   base_address                  DW_AT_low_pc of the unit
- *   address_size                  1, 2, 4 or 8; every other size is refused with 6
- *   dwarf64                       whether the unit is of the 64-bit format
- *   version                       of the unit: up to 4 bare pairs, from 5 on entries with kinds
- *   big_endian                    the byte order
- *   split                         whether the section is of a .dwo file: then lists of every version have kinds
+ * Arguments stand in this order in all calls:
+ *
+ *   section, section_len        the bytes of the section that the list stands in, by the version of its unit:
+ *                                   up to 4     .debug_ranges or .debug_loc            yz_section_of: YZ_SECTION_BEFORE_5
+ *                                   from 5 on   .debug_rnglists or .debug_loclists                    YZ_SECTION_FROM_5
+ *                               and in a .dwo file the section of that name with .dwo; .debug_ranges is in the main file
+ *   debug_addr, debug_addr_len  the bytes of .debug_addr, in the byte order of the list; length 0 where there is none
+ *   debug_addr_base             DW_AT_addr_base: where the addresses of the unit's table begin. A row past the table's end
+ *                               reads what follows in the section, as gimli does
+ *   encoding                    how the unit is written, or of it big_endian alone
+ *   file_type                   whether the section is of a .dwo file: then location lists of every version have kinds
+ *   offset, or at               where the list begins in the section, or what is read
+ *   base_address                DW_AT_low_pc of the unit
+ *   the rest                    what is asked for, then what is written to
+ *
+ * A loop over a walk stops at the end and on a refusal:
+ *
+ *     yz_walk walk;
+ *     yz_range range;
+ *     if (yz_range_open(section, section_len, encoding, offset, base_address, &walk).result != YZ_DONE) return;
+ *     for (;;) {
+ *         range = yz_range_next(section, section_len, debug_addr, debug_addr_len, debug_addr_base, encoding, &walk);
+ *         if (range.result != YZ_DONE) break;
+ *         printf("%" PRIx64 " to %" PRIx64 "\n", range.begin, range.end);
+ *     }
+ *     if (range.result == YZ_REFUSED) puts(yz_refusal_name(range.refusal));
+ *
+ * A loop that goes on after a refusal, for the entries behind a failed lookup in the address table, has to stop on refusal 6
+ * all the same: with an address size that is not read each call on a walk answers 6, for ever, and never the end.
  */
 #ifndef YELTZARUN_H
 #define YELTZARUN_H
@@ -32,15 +50,24 @@
 extern "C" {
 #endif
 
-/* What a call gives. */
-enum yz_result {
-    YZ_DONE = 0,    /* an item, or what was asked for */
-    YZ_END = 1,     /* the end, nothing, not there */
-    YZ_REFUSED = 2  /* w[2] and w[3] say why */
-};
+/* The version of this interface; it changes with every change of a struct, a number or a call. */
+#define YZ_VERSION 2
 
-/* The refusals by number; the value where there is one. */
-enum yz_refusal {
+/* The version of the library that is linked; the header is for it where this is YZ_VERSION. */
+uint32_t yz_version(void);
+
+/* What a call comes to. */
+typedef enum yz_result {
+    YZ_DONE = 0,      /* an item, or what was asked for */
+    YZ_END = 1,       /* the end of a walk, a section's tables or a table's addresses */
+    YZ_NOTHING = 2,   /* the entry comes to no range or location */
+    YZ_NOT_THERE = 3, /* no entry holds the address */
+    YZ_REFUSED = 4    /* refusal and refusal_value say why */
+} yz_result;
+
+/* The refusals by number; refusal_value where there is one. */
+typedef enum yz_refusal {
+    YZ_NO_REFUSAL = 0,                /* with every result but YZ_REFUSED */
     YZ_UNEXPECTED_EOF = 1,            /* bytes are missing */
     YZ_BAD_UNSIGNED_LEB128 = 2,       /* the tenth byte is above 01 */
     YZ_UNKNOWN_RANGE_LISTS_ENTRY = 3, /* a range kind above 7; the kind */
@@ -53,7 +80,75 @@ enum yz_refusal {
     YZ_TOO_MANY_RANGES = 10,          /* the 1,025th yielded range is met */
     YZ_NO_SPACE = 11,                 /* the output is shorter than the result */
     YZ_BAD_SHEET = 12                 /* no lawful sheet */
-};
+} yz_refusal;
+
+/* The name of a refusal; "" for YZ_NO_REFUSAL and for a number that is none. */
+static inline const char *yz_refusal_name(yz_refusal refusal) {
+    switch (refusal) {
+    case YZ_NO_REFUSAL: break;
+    case YZ_UNEXPECTED_EOF: return "UnexpectedEof";
+    case YZ_BAD_UNSIGNED_LEB128: return "BadUnsignedLeb128";
+    case YZ_UNKNOWN_RANGE_LISTS_ENTRY: return "UnknownRangeListsEntry";
+    case YZ_UNKNOWN_LOC_LISTS_ENTRY: return "UnknownLocListsEntry";
+    case YZ_UNKNOWN_VERSION: return "UnknownVersion";
+    case YZ_UNSUPPORTED_ADDRESS_SIZE: return "UnsupportedAddressSize";
+    case YZ_UNSUPPORTED_SEGMENT_SIZE: return "UnsupportedSegmentSize";
+    case YZ_UNKNOWN_RESERVED_LENGTH: return "UnknownReservedLength";
+    case YZ_UNSUPPORTED_OFFSET: return "UnsupportedOffset";
+    case YZ_TOO_MANY_RANGES: return "TooManyRanges";
+    case YZ_NO_SPACE: return "NoSpace";
+    case YZ_BAD_SHEET: return "BadSheet";
+    }
+    return "";
+}
+
+/* How a unit is written. */
+typedef struct yz_encoding {
+    uint16_t version;     /* up to 4 bare pairs, from 5 on entries with kinds */
+    uint8_t address_size; /* 1, 2, 4 or 8; every other size is refused with 6 */
+    bool dwarf64;         /* the 64-bit format */
+    uint32_t big_endian;  /* the byte order of its sections: 0 the lowest byte first, any other number the highest */
+} yz_encoding;
+
+/* Whether a section is of the main file or of a split one. */
+typedef enum yz_file_type {
+    YZ_FILE_MAIN = 0,
+    YZ_FILE_DWO = 1 /* a .dwo file */
+} yz_file_type;
+
+/* Which sections the lists of a unit stand in. */
+typedef enum yz_section {
+    YZ_SECTION_BEFORE_5 = 0, /* .debug_ranges, .debug_loc */
+    YZ_SECTION_FROM_5 = 1    /* .debug_rnglists, .debug_loclists */
+} yz_section;
+
+/* The kinds of entries in range lists: DWARF 5's DW_RLE_.., and 0 for a bare pair. */
+typedef enum yz_range_kind {
+    YZ_RLE_ADDRESS_OR_OFFSET_PAIR = 0,
+    YZ_RLE_BASE_ADDRESSX = 1,
+    YZ_RLE_STARTX_ENDX = 2,
+    YZ_RLE_STARTX_LENGTH = 3,
+    YZ_RLE_OFFSET_PAIR = 4,
+    YZ_RLE_BASE_ADDRESS = 5,
+    YZ_RLE_START_END = 6,
+    YZ_RLE_START_LENGTH = 7
+} yz_range_kind;
+
+/* The kinds of entries in location lists: DWARF 5's DW_LLE_.., and 0 for a bare pair. */
+typedef enum yz_location_kind {
+    YZ_LLE_ADDRESS_OR_OFFSET_PAIR = 0,
+    YZ_LLE_BASE_ADDRESSX = 1,
+    YZ_LLE_STARTX_ENDX = 2,
+    YZ_LLE_STARTX_LENGTH = 3,
+    YZ_LLE_OFFSET_PAIR = 4,
+    YZ_LLE_DEFAULT_LOCATION = 5,
+    YZ_LLE_BASE_ADDRESS = 6,
+    YZ_LLE_START_END = 7,
+    YZ_LLE_START_LENGTH = 8
+} yz_location_kind;
+
+/* The library takes an enum to have four bytes and a length eight; what is compiled otherwise stops here. */
+typedef char yz_check_sizes[sizeof(yz_result) == 4 && sizeof(size_t) == 8 ? 1 : -1];
 
 /* How many ranges a coverage holds at most. */
 #define YZ_LIMIT 1024
@@ -61,50 +156,192 @@ enum yz_refusal {
 #define YZ_SHEET_MAX (4 + 16 * YZ_LIMIT)
 #define YZ_CANONICAL_MAX (19 * YZ_LIMIT + 1)
 
-typedef struct yz_words4 { uint64_t w[4]; } yz_words4;
-typedef struct yz_words8 { uint64_t w[8]; } yz_words8;
 /* The begins or the ends of a coverage's ranges. */
 typedef struct yz_bounds { uint64_t at[YZ_LIMIT]; } yz_bounds;
 
-/* ---- Reads at a place. Done: w[0] the place after, w[2] the number. Refused: 1 where bytes are missing. ---- */
+/* A part of a section. */
+typedef struct yz_part {
+    uint64_t offset;
+    uint64_t length;
+} yz_part;
+
+/* A list that is walked. One made by hand is answered, too. */
+typedef struct yz_walk {
+    uint64_t at;           /* the place of the next entry; from the section's end on there is none */
+    uint64_t base_address; /* what the next offset pair is added to */
+    uint64_t split;        /* not 0: a location list of a .dwo file, as told at its opening; range lists don't read it */
+} yz_walk;
+
+/* An entry of a range list as it is written. */
+typedef struct yz_range_entry {
+    uint64_t kind;   /* a yz_range_kind */
+    uint64_t first;  /* begin, base address or index */
+    uint64_t second; /* end, length or index; 0 where the kind has one number */
+} yz_range_entry;
+
+/* An entry of a location list as it is written. */
+typedef struct yz_location_entry {
+    uint64_t kind;      /* a yz_location_kind */
+    uint64_t first;     /* begin, base address or index; 0 where the kind has none */
+    uint64_t second;    /* end, length or index; 0 where the kind has one number or none */
+    yz_part expression; /* of the section; 0 and 0 where the kind has none */
+} yz_location_entry;
+
+/* ---- Answers ---- */
+
+/* Done or refused. */
+typedef struct yz_done {
+    yz_result result;
+    yz_refusal refusal;
+    uint64_t refusal_value;
+} yz_done;
+
+/* Done: a number. */
+typedef struct yz_number {
+    yz_result result;
+    yz_refusal refusal;
+    uint64_t refusal_value;
+    uint64_t number;
+} yz_number;
+
+/* Done: how many ranges a coverage has, or how many bytes were written. */
+typedef struct yz_count {
+    yz_result result;
+    yz_refusal refusal;
+    uint64_t refusal_value;
+    uint64_t count;
+} yz_count;
+
+/* Done: a place. */
+typedef struct yz_place {
+    yz_result result;
+    yz_refusal refusal;
+    uint64_t refusal_value;
+    uint64_t next; /* the place after what was passed over */
+} yz_place;
+
+/* Done: a number that was read. */
+typedef struct yz_read {
+    yz_result result;
+    yz_refusal refusal;
+    uint64_t refusal_value;
+    uint64_t next; /* the place after what was read */
+    uint64_t number;
+} yz_read;
+
+/* Done: a part of the section. */
+typedef struct yz_split_part {
+    yz_result result;
+    yz_refusal refusal;
+    uint64_t refusal_value;
+    uint64_t next; /* the place after the part */
+    yz_part part;
+} yz_split_part;
+
+/* Done: an initial length. */
+typedef struct yz_unit_length {
+    yz_result result;
+    yz_refusal refusal;
+    uint64_t refusal_value;
+    uint64_t next; /* the place after the length */
+    uint64_t length;
+    uint64_t dwarf64; /* 1 for the 64-bit format, else 0 */
+} yz_unit_length;
+
+/* Done: the header of a table in .debug_addr. */
+typedef struct yz_table_header {
+    yz_result result;
+    yz_refusal refusal;
+    uint64_t refusal_value;
+    yz_encoding encoding;
+    uint64_t offset; /* where the header begins */
+    uint64_t length; /* the unit's, as the header gives it */
+    yz_part entries; /* the table's addresses; their offset is the unit's debug_addr_base */
+} yz_table_header;
+
+/* Done: the header of a unit in .debug_rnglists or .debug_loclists. */
+typedef struct yz_lists_header_answer {
+    yz_result result;
+    yz_refusal refusal;
+    uint64_t refusal_value;
+    yz_encoding encoding;
+    uint64_t offset_entry_count; /* how many offsets follow the header */
+    uint64_t header_size;
+    yz_part rest; /* of the unit, from the header's end on */
+} yz_lists_header_answer;
+
+/* Done: a range, from begin up to, and without, end. */
+typedef struct yz_range {
+    yz_result result;
+    yz_refusal refusal;
+    uint64_t refusal_value;
+    uint64_t begin;
+    uint64_t end;
+} yz_range;
+
+/* Done: a range, and the expression that holds in it. */
+typedef struct yz_location {
+    yz_result result;
+    yz_refusal refusal;
+    uint64_t refusal_value;
+    uint64_t begin;
+    uint64_t end;
+    yz_part expression; /* of the section */
+} yz_location;
+
+/* Done: an entry of a range list as it is written. */
+typedef struct yz_raw_range {
+    yz_result result;
+    yz_refusal refusal;
+    uint64_t refusal_value;
+    yz_range_entry entry;
+} yz_raw_range;
+
+/* Done: an entry of a location list as it is written. */
+typedef struct yz_raw_location {
+    yz_result result;
+    yz_refusal refusal;
+    uint64_t refusal_value;
+    yz_location_entry entry;
+} yz_raw_location;
+
+/* ---- Reads at a place. Done, or refused: 1 where bytes are missing. ---- */
 
 /* An unsigned LEB128 number of at most ten bytes. Refused: 1, 2. */
-uint64_t yz_uleb128(const uint8_t *section, size_t section_len, size_t at, yz_words4 *out);
+yz_read yz_uleb128(const uint8_t *section, size_t section_len, size_t at);
 
 /* A number of one byte. Refused: 1. */
-uint64_t yz_read_u8(const uint8_t *section, size_t section_len, size_t at, yz_words4 *out);
+yz_read yz_read_u8(const uint8_t *section, size_t section_len, size_t at);
 
 /* A number of two bytes. Refused: 1. */
-uint64_t yz_read_u16(const uint8_t *section, size_t section_len, size_t at, bool big_endian, yz_words4 *out);
+yz_read yz_read_u16(const uint8_t *section, size_t section_len, bool big_endian, size_t at);
 
 /* A number of four bytes. Refused: 1. */
-uint64_t yz_read_u32(const uint8_t *section, size_t section_len, size_t at, bool big_endian, yz_words4 *out);
+yz_read yz_read_u32(const uint8_t *section, size_t section_len, bool big_endian, size_t at);
 
 /* A number of eight bytes. Refused: 1. */
-uint64_t yz_read_u64(const uint8_t *section, size_t section_len, size_t at, bool big_endian, yz_words4 *out);
+yz_read yz_read_u64(const uint8_t *section, size_t section_len, bool big_endian, size_t at);
 
-/* An address of a size. Refused: 6, 1. */
-uint64_t yz_read_address(const uint8_t *section, size_t section_len, size_t at, uint8_t address_size, bool big_endian,
-                         yz_words4 *out);
+/* An address of the encoding's size. Refused: 6, then 1. */
+yz_read yz_read_address(const uint8_t *section, size_t section_len, yz_encoding encoding, size_t at);
 
-/* An address size of one byte. Refused: 1, 6. */
-uint64_t yz_read_address_size(const uint8_t *section, size_t section_len, size_t at, yz_words4 *out);
+/* An address size of one byte. Refused: 1, then 6. */
+yz_read yz_read_address_size(const uint8_t *section, size_t section_len, size_t at);
 
 /* An offset: four bytes, or eight in the 64-bit format. Refused: 1. */
-uint64_t yz_read_offset(const uint8_t *section, size_t section_len, size_t at, bool dwarf64, bool big_endian,
-                        yz_words4 *out);
+yz_read yz_read_offset(const uint8_t *section, size_t section_len, yz_encoding encoding, size_t at);
 
-/* An initial length; w[3] is 1 for the 64-bit format. Refused: 1, 8. */
-uint64_t yz_initial_length(const uint8_t *section, size_t section_len, size_t at, bool big_endian, yz_words4 *out);
+/* An initial length, and the format that it tells. Refused: 1, 8. */
+yz_unit_length yz_initial_length(const uint8_t *section, size_t section_len, bool big_endian, size_t at);
 
-/* The place after len more bytes, in w[0] alone. Refused: 1. */
-uint64_t yz_skip(const uint8_t *section, size_t section_len, size_t at, uint64_t len, yz_words4 *out);
+/* The place after len more bytes. Refused: 1. */
+yz_place yz_skip(const uint8_t *section, size_t section_len, size_t at, uint64_t len);
 
-/* The part of len bytes from the place on: w[2] its offset, w[3] its length. Refused: 1. */
-uint64_t yz_split(const uint8_t *section, size_t section_len, size_t at, uint64_t len, yz_words4 *out);
+/* The part of len bytes from the place on. Refused: 1. */
+yz_split_part yz_split(const uint8_t *section, size_t section_len, size_t at, uint64_t len);
 
-/* Where a section ends that is cut len bytes after the place, in w[2]; w[0] is the place, unmoved. Refused: 1. */
-uint64_t yz_truncate(const uint8_t *section, size_t section_len, size_t at, uint64_t len, yz_words4 *out);
+/* Where a section ends that is cut len bytes after the place. Refused: 1. */
+yz_number yz_truncate(const uint8_t *section, size_t section_len, size_t at, uint64_t len);
 
 /* ---- Addresses: the answer itself, for every size ---- */
 
@@ -119,144 +356,138 @@ uint64_t yz_ones_sized(uint8_t address_size);
 
 /* ---- Address tables, headers and offset tables ---- */
 
-/* The address of an index in the table at a base: w[2]. Refused: 1, 9 (index * address_size), 6. */
-uint64_t yz_get_address(const uint8_t *debug_addr, size_t debug_addr_len, uint8_t address_size, uint64_t base,
-                        uint64_t index, bool big_endian, yz_words4 *out);
+/* The address of an index in the table at a base. Refused: 1, 9 (index * address_size), 6. */
+yz_number yz_get_address(const uint8_t *debug_addr, size_t debug_addr_len, uint64_t debug_addr_base,
+                         yz_encoding encoding, uint64_t index);
 
-/* The next header of .debug_addr. In: w[0] the place, 0 at first. Done: w[0] the place after its table, w[1] version,
- * w[2] the header's offset, w[3] the unit's length, w[4] 1 for the 64-bit format, w[5] address size, w[6] and w[7] offset
- * and length of its addresses. End: w[0] the place. Refused: 1, 5, 6, 7, 8, with w[0] the section's length. */
-uint64_t yz_table_next(const uint8_t *debug_addr, size_t debug_addr_len, bool big_endian, yz_words8 *io);
+/* The next header of .debug_addr. `at` is its place, 0 at first; the call moves it behind the header's table, at the end
+ * not at all, and on a refusal to the section's end. Done, end, or refused: 1, 5, 6, 7, 8. */
+yz_table_header yz_table_next(const uint8_t *debug_addr, size_t debug_addr_len, bool big_endian, uint64_t *at);
 
-/* The next address of a table. In and out: w[0] and w[1], offset and length of the addresses that are left. Done: w[2] the
- * address. Refused: 6, 1, with nothing left. A part that does not lie in the section has no addresses. */
-uint64_t yz_table_entry_next(const uint8_t *debug_addr, size_t debug_addr_len, uint8_t address_size, bool big_endian,
-                             yz_words4 *io);
+/* The next address of a table. `entries` is what is left of its addresses; the call takes the address off its front, and on
+ * a refusal leaves nothing of it. Done, end, or refused: 6, then 1. A part that does not lie in the section has no addresses. */
+yz_number yz_table_entry_next(const uint8_t *debug_addr, size_t debug_addr_len, yz_encoding encoding,
+                              yz_part *entries);
 
-/* The header of .debug_rnglists or .debug_loclists at a place: w[1] version, w[2] 1 for the 64-bit format, w[3] address
- * size, w[4] count of offsets, w[5] the header's size, w[6] and w[7] offset and length of what is left of the unit.
- * Refused: 1, 5, 6, 7, 8. */
-uint64_t yz_lists_header(const uint8_t *section, size_t section_len, size_t at, bool big_endian, yz_words8 *out);
+/* The header of .debug_rnglists or .debug_loclists at a place. Refused: 1, 5, 6, 7, 8. */
+yz_lists_header_answer yz_lists_header(const uint8_t *section, size_t section_len, bool big_endian, size_t at);
 
-/* The range list's offset that an index (DW_FORM_rnglistx) has in the table at a base (DW_AT_rnglists_base): w[2].
+/* The range list's offset that an index (DW_FORM_rnglistx) has in the table at a base (DW_AT_rnglists_base).
  * Refused: 1, 9. */
-uint64_t yz_range_get_offset(const uint8_t *debug_rnglists, size_t debug_rnglists_len, bool dwarf64, uint64_t base,
-                             uint64_t index, bool big_endian, yz_words4 *out);
+yz_number yz_range_get_offset(const uint8_t *debug_rnglists, size_t debug_rnglists_len, yz_encoding encoding,
+                              uint64_t base, uint64_t index);
 
 /* The base of .debug_rnglists where no attribute gives one: the answer itself. */
-uint64_t yz_range_default_base(bool dwarf64, uint16_t version, bool split);
+uint64_t yz_range_default_base(yz_encoding encoding, yz_file_type file_type);
 
-/* The location list's offset that an index (DW_FORM_loclistx) has in the table at a base (DW_AT_loclists_base): w[2].
+/* The location list's offset that an index (DW_FORM_loclistx) has in the table at a base (DW_AT_loclists_base).
  * Refused: 1, 9. */
-uint64_t yz_location_get_offset(const uint8_t *debug_loclists, size_t debug_loclists_len, bool dwarf64, uint64_t base,
-                                uint64_t index, bool big_endian, yz_words4 *out);
+yz_number yz_location_get_offset(const uint8_t *debug_loclists, size_t debug_loclists_len, yz_encoding encoding,
+                                 uint64_t base, uint64_t index);
 
 /* The base of .debug_loclists where no attribute gives one: the answer itself. */
-uint64_t yz_location_default_base(bool dwarf64, uint16_t version, bool split);
+uint64_t yz_location_default_base(yz_encoding encoding, yz_file_type file_type);
 
-/* ---- Walks: w[0] the place, w[1] the base address, in and out. After a refusal of .._next or .._next_raw that is not the
- * address table's the walk is at its end; after a failed lookup in the address table it goes on with the entry that follows.
- * A refusal of .._convert_raw leaves the walk as it was. ---- */
+/* ---- Walks. After a refusal of .._next or .._next_raw that is not the address table's the walk is at its end; after a
+ * failed lookup in the address table it goes on with the entry that follows. A refusal of .._open or .._convert_raw leaves
+ * the walk as it was. ---- */
 
-/* A walk at the begin of a range list: w[0], w[1]. Refused: 6, 1. */
-uint64_t yz_range_open(const uint8_t *section, size_t section_len, uint64_t offset, uint8_t address_size, bool dwarf64,
-                       uint16_t version, uint64_t base_address, yz_words4 *out);
+/* Which section a unit's lists stand in: the answer itself. */
+yz_section yz_section_of(yz_encoding encoding);
 
-/* The next range: w[2] begin, w[3] end. Refused: 6, 1, 2, 3; 1 and 9 by the address table. */
-uint64_t yz_range_next(const uint8_t *section, size_t section_len, const uint8_t *debug_addr, size_t debug_addr_len,
-                       uint64_t debug_addr_base, uint8_t address_size, bool dwarf64, uint16_t version, bool big_endian,
-                       yz_words4 *io);
+/* A walk at the begin of a range list. Refused: 6, then 1. */
+yz_done yz_range_open(const uint8_t *section, size_t section_len, yz_encoding encoding, uint64_t offset,
+                      uint64_t base_address, yz_walk *walk);
 
-/* The next entry as it is written: w[2] its kind (0 for a bare pair), w[3] and w[4] its numbers. Refused: 6, 1, 2, 3. */
-uint64_t yz_range_next_raw(const uint8_t *section, size_t section_len, uint8_t address_size, bool dwarf64,
-                           uint16_t version, bool big_endian, yz_words8 *io);
+/* The next range. Done, end, or refused: 6 before all else; 1, 2, 3; 1 and 9 by the address table. */
+yz_range yz_range_next(const uint8_t *section, size_t section_len, const uint8_t *debug_addr, size_t debug_addr_len,
+                       uint64_t debug_addr_base, yz_encoding encoding, yz_walk *walk);
 
-/* What such an entry, in the words as yz_range_next_raw leaves them, comes to: w[2] begin, w[3] end. YZ_END: no range, but
- * perhaps another base address in w[1]. Refused: 3 for a kind above 7; 6; 1 and 9 by the address table. */
-uint64_t yz_range_convert_raw(const uint8_t *debug_addr, size_t debug_addr_len, uint64_t debug_addr_base,
-                              uint8_t address_size, bool dwarf64, uint16_t version, bool big_endian, yz_words8 *io);
+/* The next entry as it is written. Done, end, or refused: 6 before all else; 1, 2, 3. */
+yz_raw_range yz_range_next_raw(const uint8_t *section, size_t section_len, yz_encoding encoding, yz_walk *walk);
 
-/* A walk at the begin of a location list: w[0], w[1]. Refused: 6, 1. */
-uint64_t yz_location_open(const uint8_t *section, size_t section_len, uint64_t offset, uint8_t address_size,
-                          bool dwarf64, uint16_t version, uint64_t base_address, yz_words4 *out);
+/* What an entry comes to that yz_range_next_raw gave. Done: a range. Nothing: none, but perhaps another base address in the
+ * walk. Refused: 6, then 3 for a kind above 7; 1 and 9 by the address table. */
+yz_range yz_range_convert_raw(const uint8_t *debug_addr, size_t debug_addr_len, uint64_t debug_addr_base,
+                              yz_encoding encoding, yz_range_entry entry, yz_walk *walk);
 
-/* The next location: w[2] begin, w[3] end, w[4] and w[5] offset and length of the expression in the section.
- * Refused: 6, 1, 2, 4; 1 and 9 by the address table. */
-uint64_t yz_location_next(const uint8_t *section, size_t section_len, const uint8_t *debug_addr, size_t debug_addr_len,
-                          uint64_t debug_addr_base, uint8_t address_size, bool dwarf64, uint16_t version,
-                          bool big_endian, bool split, yz_words8 *io);
+/* A walk at the begin of a location list; it keeps whether the list is split. Refused: 6, then 1. */
+yz_done yz_location_open(const uint8_t *section, size_t section_len, yz_encoding encoding, yz_file_type file_type,
+                         uint64_t offset, uint64_t base_address, yz_walk *walk);
 
-/* The next entry as it is written: w[2] its kind (0 for a bare pair), w[3] and w[4] its numbers, w[5] and w[6] offset and
- * length of its expression. Refused: 6, 1, 2, 4. */
-uint64_t yz_location_next_raw(const uint8_t *section, size_t section_len, uint8_t address_size, bool dwarf64,
-                              uint16_t version, bool big_endian, bool split, yz_words8 *io);
+/* The next location. Done, end, or refused: 6 before all else; 1, 2, 4; 1 and 9 by the address table. */
+yz_location yz_location_next(const uint8_t *section, size_t section_len, const uint8_t *debug_addr,
+                             size_t debug_addr_len, uint64_t debug_addr_base, yz_encoding encoding, yz_walk *walk);
 
-/* What such an entry, in the words as yz_location_next_raw leaves them, comes to: w[2] begin, w[3] end, w[4] and w[5] the
- * expression. YZ_END: no location, but perhaps another base address in w[1]. Refused: 4 for a kind above 8; 6; 1 and 9 by
- * the address table. */
-uint64_t yz_location_convert_raw(const uint8_t *debug_addr, size_t debug_addr_len, uint64_t debug_addr_base,
-                                 uint8_t address_size, bool dwarf64, uint16_t version, bool big_endian, yz_words8 *io);
+/* The next entry as it is written. Done, end, or refused: 6 before all else; 1, 2, 4. */
+yz_raw_location yz_location_next_raw(const uint8_t *section, size_t section_len, yz_encoding encoding, yz_walk *walk);
 
-/* ---- Lookups: the first entry that holds an address; YZ_END: none does ---- */
+/* What an entry comes to that yz_location_next_raw gave. Done: a location; the expression is handed on as it came in, whether
+ * or not it lies in a section. Nothing: none, but perhaps another base address in the walk. Refused: 6, then 4 for a kind
+ * above 8; 1 and 9 by the address table. */
+yz_location yz_location_convert_raw(const uint8_t *debug_addr, size_t debug_addr_len, uint64_t debug_addr_base,
+                                    yz_encoding encoding, yz_location_entry entry, yz_walk *walk);
 
-/* The range that holds an address: w[2] begin, w[3] end. Refused as opening and yz_range_next are, where that is met before
- * the range. */
-uint64_t yz_range_lookup(const uint8_t *section, size_t section_len, const uint8_t *debug_addr, size_t debug_addr_len,
-                         uint64_t debug_addr_base, uint64_t offset, uint64_t base_address, uint8_t address_size,
-                         bool dwarf64, uint16_t version, bool big_endian, uint64_t address, yz_words4 *out);
+/* For an expression that was not read from the section: the part itself where it lies in there, else 0 and 0. */
+yz_part yz_expression(const uint8_t *section, size_t section_len, yz_part expression);
 
-/* The location that holds an address: w[2] begin, w[3] end, w[4] and w[5] offset and length of the expression. Refused as
- * opening and yz_location_next are, where that is met before the location. */
-uint64_t yz_location_lookup(const uint8_t *section, size_t section_len, const uint8_t *debug_addr,
-                            size_t debug_addr_len, uint64_t debug_addr_base, uint64_t offset, uint64_t base_address,
-                            uint8_t address_size, bool dwarf64, uint16_t version, bool big_endian, bool split,
-                            uint64_t address, yz_words8 *out);
+/* ---- Lookups: the first entry that holds an address. Done, not there, or refused as opening and .._next are, where that is
+ * met before the entry. ---- */
+
+/* The range that holds an address. */
+yz_range yz_range_lookup(const uint8_t *section, size_t section_len, const uint8_t *debug_addr, size_t debug_addr_len,
+                         uint64_t debug_addr_base, yz_encoding encoding, uint64_t offset, uint64_t base_address,
+                         uint64_t address);
+
+/* The location that holds an address. */
+yz_location yz_location_lookup(const uint8_t *section, size_t section_len, const uint8_t *debug_addr,
+                               size_t debug_addr_len, uint64_t debug_addr_base, yz_encoding encoding,
+                               yz_file_type file_type, uint64_t offset, uint64_t base_address, uint64_t address);
 
 /* ---- Coverage: the addresses of a list as their longest runs, ascending, in begins and ends; places past the count are 0.
- * Done: w[0] the count. A refused call leaves begins, ends and output as they were. ---- */
+ * A refused call leaves begins and ends as they were. ---- */
 
 /* The coverage of a range list. Refused as opening and yz_range_next are, or 10, whichever is met first. */
-uint64_t yz_range_coverage(const uint8_t *section, size_t section_len, const uint8_t *debug_addr, size_t debug_addr_len,
-                           uint64_t debug_addr_base, uint64_t offset, uint64_t base_address, uint8_t address_size,
-                           bool dwarf64, uint16_t version, bool big_endian, yz_bounds *begins, yz_bounds *ends,
-                           yz_words4 *out);
+yz_count yz_range_coverage(const uint8_t *section, size_t section_len, const uint8_t *debug_addr,
+                           size_t debug_addr_len, uint64_t debug_addr_base, yz_encoding encoding, uint64_t offset,
+                           uint64_t base_address, yz_bounds *begins, yz_bounds *ends);
 
 /* The coverage of a location list. Refused as opening and yz_location_next are, or 10, whichever is met first. */
-uint64_t yz_location_coverage(const uint8_t *section, size_t section_len, const uint8_t *debug_addr,
-                              size_t debug_addr_len, uint64_t debug_addr_base, uint64_t offset, uint64_t base_address,
-                              uint8_t address_size, bool dwarf64, uint16_t version, bool big_endian, bool split,
-                              yz_bounds *begins, yz_bounds *ends, yz_words4 *out);
+yz_count yz_location_coverage(const uint8_t *section, size_t section_len, const uint8_t *debug_addr,
+                              size_t debug_addr_len, uint64_t debug_addr_base, yz_encoding encoding,
+                              yz_file_type file_type, uint64_t offset, uint64_t base_address, yz_bounds *begins,
+                              yz_bounds *ends);
 
 /* The coverage of a canonical list, read as a section of its own. Refused: 1, 2, 3, 9, 10. */
-uint64_t yz_coverage_from_canonical(const uint8_t *bytes, size_t bytes_len, yz_bounds *begins, yz_bounds *ends,
-                                    yz_words4 *out);
+yz_count yz_coverage_from_canonical(const uint8_t *bytes, size_t bytes_len, yz_bounds *begins, yz_bounds *ends);
 
 /* The coverage of a sheet. Refused: 12. */
-uint64_t yz_coverage_from_sheet(const uint8_t *sheet, size_t sheet_len, yz_bounds *begins, yz_bounds *ends,
-                                yz_words4 *out);
+yz_count yz_coverage_from_sheet(const uint8_t *sheet, size_t sheet_len, yz_bounds *begins, yz_bounds *ends);
 
-/* ---- Sheets and canonical lists. Done: w[0] the count of bytes, which stand at the begin of output; the bytes after them
- * are not touched. ---- */
+/* ---- Sheets and canonical lists: the bytes stand at the begin of output; those after them are not touched. A refused call
+ * leaves the output as it was. ---- */
 
-/* The sheet of the first n ranges. Refused: 12, 11. */
-uint64_t yz_sheet(uint64_t n, const yz_bounds *begins, const yz_bounds *ends, uint8_t *output, size_t output_len,
-                  yz_words4 *out);
+/* The sheet of the first n ranges; what stands past them is not read. Refused: 12, then 11. */
+yz_count yz_sheet(uint64_t n, const yz_bounds *begins, const yz_bounds *ends, uint8_t *output, size_t output_len);
 
-/* The canonical list of the first n ranges. Refused: 12, 11. */
-uint64_t yz_canonical(uint64_t n, const yz_bounds *begins, const yz_bounds *ends, uint8_t *output, size_t output_len,
-                      yz_words4 *out);
+/* The canonical list of the first n ranges; what stands past them is not read. Refused: 12, then 11. */
+yz_count yz_canonical(uint64_t n, const yz_bounds *begins, const yz_bounds *ends, uint8_t *output, size_t output_len);
 
 /* The canonical list of a range list. Refused as yz_range_coverage is, then 11. */
-uint64_t yz_range_canonical(const uint8_t *section, size_t section_len, const uint8_t *debug_addr,
-                            size_t debug_addr_len, uint64_t debug_addr_base, uint64_t offset, uint64_t base_address,
-                            uint8_t address_size, bool dwarf64, uint16_t version, bool big_endian, uint8_t *output,
-                            size_t output_len, yz_words4 *out);
+yz_count yz_range_canonical(const uint8_t *section, size_t section_len, const uint8_t *debug_addr,
+                            size_t debug_addr_len, uint64_t debug_addr_base, yz_encoding encoding, uint64_t offset,
+                            uint64_t base_address, uint8_t *output, size_t output_len);
 
 /* The canonical list of a location list. Refused as yz_location_coverage is, then 11. */
-uint64_t yz_location_canonical(const uint8_t *section, size_t section_len, const uint8_t *debug_addr,
-                               size_t debug_addr_len, uint64_t debug_addr_base, uint64_t offset, uint64_t base_address,
-                               uint8_t address_size, bool dwarf64, uint16_t version, bool big_endian, bool split,
-                               uint8_t *output, size_t output_len, yz_words4 *out);
+yz_count yz_location_canonical(const uint8_t *section, size_t section_len, const uint8_t *debug_addr,
+                               size_t debug_addr_len, uint64_t debug_addr_base, yz_encoding encoding,
+                               yz_file_type file_type, uint64_t offset, uint64_t base_address, uint8_t *output,
+                               size_t output_len);
+
+/* ---- Whether a list is canonical: the answer itself ---- */
+
+/* Whether the bytes, no more and no fewer, are the canonical list of some coverage. */
+bool yz_is_canonical(const uint8_t *bytes, size_t bytes_len);
 
 #ifdef __cplusplus
 }

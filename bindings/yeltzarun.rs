@@ -2,8 +2,10 @@
 //! `build-library` makes, behind the names of gimli.
 //!
 //! Every call ends and answers every input; what can't be read gets a numbered [`Error`]. A section
-//! is a lent slice with a byte order. Where a list is read with an address table, the list's byte
-//! order is used for both. The calls over a [`Coverage`] take about 100 KB of stack.
+//! is a lent slice with a byte order; a list and the address table that it is read with have the
+//! same one, or are refused with [`Error::MixedByteOrders`]. Every walk has an end, since opening
+//! refuses an address size that isn't read. A walk is an [`Iterator`] too, as in gimli. The calls
+//! over a [`Coverage`] take about 100 KB of stack.
 //!
 //! ```
 //! use yeltzarun::*;
@@ -22,6 +24,9 @@
 //!     assert_eq!(location.range, Range { begin: 0x10, end: 0x18 });
 //!     assert_eq!(location.data.bytes(), [0x50]);
 //! }
+//!
+//! let walk = lists.locations_dwo(offset, encoding, 0, &debug_addr, base)?;
+//! assert_eq!(walk.filter_map(Result::ok).count(), 1);
 //!
 //! let dwo = DwarfFileType::Dwo;
 //! let found = lists.lookup(offset, encoding, dwo, 0, &debug_addr, base, 0x18)?;
@@ -48,6 +53,8 @@ mod error;
 #[path = "yeltzarun/ffi.rs"]
 #[rustfmt::skip]
 mod ffi;
+#[path = "yeltzarun/iterators.rs"]
+mod iterators;
 #[path = "yeltzarun/lists.rs"]
 mod lists;
 #[path = "yeltzarun/loclists.rs"]
@@ -75,3 +82,12 @@ pub use loclists::{LocListIter, LocationLists, RawLocListIter};
 pub use reader::{EndianSlice, ReaderAddress};
 pub use rnglists::{RangeLists, RawRngListIter, RngListIter};
 pub use section::{DebugAddr, DebugLoc, DebugLocLists, DebugRanges, DebugRngLists};
+
+/// The version of the interface that this wrapper is for.
+pub const VERSION: u32 = 2;
+
+/// The version of the library that is linked. Where it isn't [`VERSION`], its answers can't be
+/// understood.
+pub fn version() -> u32 {
+    ffi::yz_version()
+}

@@ -1,140 +1,109 @@
 //! Address tables.
 
-use super::error::{answered, done};
 use super::ffi;
 use super::{
     DebugAddr, DebugAddrBase, DebugAddrIndex, DebugAddrOffset, Encoding, EndianSlice, Format,
-    Result,
+    Result, RunTimeEndian,
 };
 
 impl<'a> DebugAddr<'a> {
-    pub(super) fn bytes(&self) -> &'a [u8] {
-        self.section.section
-    }
-
-    /// The address of an index in the table at a base.
+    /// The address of an index in the table at a base. A row past the table's end reads what
+    /// follows in the section.
     pub fn get_address(
         &self,
         address_size: u8,
         base: DebugAddrBase,
         index: DebugAddrIndex,
     ) -> Result<u64> {
-        let mut out = [0; 4];
-        let (bytes, big) = (self.bytes(), self.section.endian.is_big_endian());
+        let EndianSlice { section, endian, .. } = self.section;
+        // Version and format make no difference.
+        let encoding = Encoding { address_size, format: Format::Dwarf32, version: 5 };
+        let encoding = encoding.in_order(endian);
         // SAFETY: pointer and length are of one slice.
-        let code = unsafe {
-            ffi::yz_get_address(
-                bytes.as_ptr(),
-                bytes.len(),
-                address_size,
-                base.0,
-                index.0,
-                big,
-                &mut out,
-            )
+        let answer = unsafe {
+            ffi::yz_get_address(section.as_ptr(), section.len(), base.0, encoding, index.0)
         };
-        Ok(done(code, out)?[2])
+        answer.done()
     }
 
     /// The headers of the section's tables, one after the other.
     pub fn headers(&self) -> AddrHeaderIter<'a> {
-        AddrHeaderIter { section: self.section }
+        AddrHeaderIter { section: self.section.section, endian: self.section.endian, at: 0 }
     }
 }
 
 /// A walk over the headers of `.debug_addr`.
 #[derive(Debug, Clone)]
 pub struct AddrHeaderIter<'a> {
-    section: EndianSlice<'a>,
+    section: &'a [u8],
+    endian: RunTimeEndian,
+    at: u64,
 }
 
 impl<'a> AddrHeaderIter<'a> {
     /// The next header; after a refusal there is none.
     #[allow(clippy::should_implement_trait)]
     pub fn next(&mut self) -> Result<Option<AddrHeader<'a>>> {
-        let mut io = [0; 8];
-        let EndianSlice { section, at, endian } = self.section;
-        io[0] = at as u64;
+        let (s, big_endian) = (self.section, self.endian.is_big_endian());
         // SAFETY: pointer and length are of one slice.
-        let code = unsafe {
-            ffi::yz_table_next(section.as_ptr(), section.len(), endian.is_big_endian(), &mut io)
-        };
-        self.section.at = io[0] as usize;
-        let header = answered(code, io)?.map(|words| AddrHeader { section: self.section, words });
-        Ok(header)
+        let answer = unsafe { ffi::yz_table_next(s.as_ptr(), s.len(), big_endian, &mut self.at) };
+        let header = answer.done_unless(ffi::END)?;
+        Ok(header.map(|header| AddrHeader { section: s, header }))
     }
 }
 
 /// The header of a table in `.debug_addr`.
 #[derive(Debug, Clone, Copy)]
 pub struct AddrHeader<'a> {
-    section: EndianSlice<'a>,
-    words: ffi::Eight,
+    section: &'a [u8],
+    header: ffi::TableHeader,
 }
 
 impl<'a> AddrHeader<'a> {
     /// Where the header begins.
     pub fn offset(&self) -> DebugAddrOffset {
-        DebugAddrOffset(self.words[2])
+        DebugAddrOffset(self.header.offset)
     }
 
     /// The length that the header gives: the bytes after the length itself.
     pub fn length(&self) -> u64 {
-        self.words[3]
+        self.header.length
     }
 
     /// How the unit is written.
     pub fn encoding(&self) -> Encoding {
-        Encoding {
-            address_size: self.words[5] as u8,
-            format: Format::of_word(self.words[4]),
-            version: self.words[1] as u16,
-        }
+        Encoding::of(self.header.encoding)
     }
 
     /// Where the addresses begin.
     pub fn base(&self) -> DebugAddrBase {
-        DebugAddrBase(self.words[6])
+        DebugAddrBase(self.header.entries.offset)
     }
 
     /// The table's addresses.
     pub fn entries(&self) -> AddrEntryIter<'a> {
-        AddrEntryIter {
-            section: self.section,
-            offset: self.words[6],
-            len: self.words[7],
-            address_size: self.encoding().address_size,
-        }
+        let AddrHeader { section, header } = *self;
+        AddrEntryIter { section, encoding: header.encoding, entries: header.entries }
     }
 }
 
 /// A walk over the addresses of a table.
 #[derive(Debug, Clone)]
 pub struct AddrEntryIter<'a> {
-    section: EndianSlice<'a>,
-    offset: u64,
-    len: u64,
-    address_size: u8,
+    section: &'a [u8],
+    encoding: ffi::Encoding,
+    /// What is left.
+    entries: ffi::Part,
 }
 
 impl AddrEntryIter<'_> {
     /// The next address; after a refusal there is none.
     #[allow(clippy::should_implement_trait)]
     pub fn next(&mut self) -> Result<Option<u64>> {
-        let mut io = [self.offset, self.len, 0, 0];
-        let EndianSlice { section, endian, .. } = self.section;
-        let big = endian.is_big_endian();
+        let (s, encoding) = (self.section, self.encoding);
         // SAFETY: pointer and length are of one slice.
-        let code = unsafe {
-            ffi::yz_table_entry_next(
-                section.as_ptr(),
-                section.len(),
-                self.address_size,
-                big,
-                &mut io,
-            )
-        };
-        (self.offset, self.len) = (io[0], io[1]);
-        Ok(answered(code, io)?.map(|words| words[2]))
+        let answer =
+            unsafe { ffi::yz_table_entry_next(s.as_ptr(), s.len(), encoding, &mut self.entries) };
+        answer.done_unless(ffi::END)
     }
 }

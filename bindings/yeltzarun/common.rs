@@ -29,8 +29,8 @@ pub enum Format {
 }
 
 impl Format {
-    pub(super) fn of_word(word: u64) -> Format {
-        if word == 1 { Format::Dwarf64 } else { Format::Dwarf32 }
+    pub(super) fn of(dwarf64: bool) -> Format {
+        if dwarf64 { Format::Dwarf64 } else { Format::Dwarf32 }
     }
 
     pub(super) fn is_dwarf64(self) -> bool {
@@ -59,6 +59,26 @@ pub struct Encoding {
     pub version: u16,
 }
 
+impl Encoding {
+    pub(super) fn of(encoding: ffi::Encoding) -> Encoding {
+        Encoding {
+            address_size: encoding.address_size,
+            format: Format::of(encoding.dwarf64),
+            version: encoding.version,
+        }
+    }
+
+    /// The same with a byte order.
+    pub(super) fn in_order(self, endian: RunTimeEndian) -> ffi::Encoding {
+        ffi::Encoding {
+            version: self.version,
+            address_size: self.address_size,
+            dwarf64: self.format.is_dwarf64(),
+            big_endian: endian.is_big_endian().into(),
+        }
+    }
+}
+
 /// Whether a section is of a main file or of a split one.
 #[derive(Debug, Default, Clone, Copy, PartialEq, Eq, Hash)]
 pub enum DwarfFileType {
@@ -67,6 +87,15 @@ pub enum DwarfFileType {
     Main,
     /// A .dwo file.
     Dwo,
+}
+
+impl DwarfFileType {
+    pub(super) fn number(self) -> u32 {
+        match self {
+            DwarfFileType::Main => ffi::FILE_MAIN,
+            DwarfFileType::Dwo => ffi::FILE_DWO,
+        }
+    }
 }
 
 macro_rules! numbers {
@@ -104,12 +133,9 @@ impl DebugRngListsBase {
         encoding: Encoding,
         file_type: DwarfFileType,
     ) -> DebugRngListsBase {
-        let split = file_type == DwarfFileType::Dwo;
-        DebugRngListsBase(ffi::yz_range_default_base(
-            encoding.format.is_dwarf64(),
-            encoding.version,
-            split,
-        ))
+        // The byte order makes no difference.
+        let encoding = encoding.in_order(RunTimeEndian::Little);
+        DebugRngListsBase(ffi::yz_range_default_base(encoding, file_type.number()))
     }
 }
 
@@ -119,11 +145,8 @@ impl DebugLocListsBase {
         encoding: Encoding,
         file_type: DwarfFileType,
     ) -> DebugLocListsBase {
-        let split = file_type == DwarfFileType::Dwo;
-        DebugLocListsBase(ffi::yz_location_default_base(
-            encoding.format.is_dwarf64(),
-            encoding.version,
-            split,
-        ))
+        // The byte order makes no difference.
+        let encoding = encoding.in_order(RunTimeEndian::Little);
+        DebugLocListsBase(ffi::yz_location_default_base(encoding, file_type.number()))
     }
 }

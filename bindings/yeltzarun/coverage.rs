@@ -1,6 +1,5 @@
 //! Coverages, sheets and canonical lists.
 
-use super::error::done;
 use super::ffi;
 use super::reader::part;
 use super::{Error, Range, Result};
@@ -23,12 +22,10 @@ pub struct Coverage {
 
 impl Coverage {
     pub(super) fn made(
-        call: impl FnOnce(&mut ffi::Bounds, &mut ffi::Bounds, &mut ffi::Four) -> u64,
+        call: impl FnOnce(&mut ffi::Bounds, &mut ffi::Bounds) -> ffi::Answer<u64>,
     ) -> Result<Coverage> {
         let mut coverage = Coverage { n: 0, begins: [0; LIMIT], ends: [0; LIMIT] };
-        let mut out = [0; 4];
-        let code = call(&mut coverage.begins, &mut coverage.ends, &mut out);
-        coverage.n = done(code, out)?[0] as usize;
+        coverage.n = call(&mut coverage.begins, &mut coverage.ends).done()? as usize;
         Ok(coverage)
     }
 
@@ -65,8 +62,8 @@ impl Coverage {
     /// The sheet, written into an output; [`SHEET_MAX`] bytes are always enough.
     pub fn sheet<'o>(&self, output: &'o mut [u8]) -> Result<Sheet<'o>> {
         // SAFETY: pointer and length are of one slice, which is lent alone.
-        let bytes = filled(output, |o, m, out| unsafe {
-            ffi::yz_sheet(self.n as u64, &self.begins, &self.ends, o, m, out)
+        let bytes = filled(output, |o, m| unsafe {
+            ffi::yz_sheet(self.n as u64, &self.begins, &self.ends, o, m)
         })?;
         Ok(Sheet { bytes })
     }
@@ -74,8 +71,8 @@ impl Coverage {
     /// The canonical list, written into an output; [`CANONICAL_MAX`] bytes are always enough.
     pub fn canonical<'o>(&self, output: &'o mut [u8]) -> Result<CanonicalList<'o>> {
         // SAFETY: pointer and length are of one slice, which is lent alone.
-        let bytes = filled(output, |o, m, out| unsafe {
-            ffi::yz_canonical(self.n as u64, &self.begins, &self.ends, o, m, out)
+        let bytes = filled(output, |o, m| unsafe {
+            ffi::yz_canonical(self.n as u64, &self.begins, &self.ends, o, m)
         })?;
         Ok(CanonicalList { bytes })
     }
@@ -90,11 +87,9 @@ impl fmt::Debug for Coverage {
 /// The front of an output that a call has filled.
 pub(super) fn filled(
     output: &mut [u8],
-    call: impl FnOnce(*mut u8, usize, &mut ffi::Four) -> u64,
+    call: impl FnOnce(*mut u8, usize) -> ffi::Answer<u64>,
 ) -> Result<&[u8]> {
-    let mut out = [0; 4];
-    let code = call(output.as_mut_ptr(), output.len(), &mut out);
-    let len = done(code, out)?[0];
+    let len = call(output.as_mut_ptr(), output.len()).done()?;
     Ok(part(output, 0, len))
 }
 
@@ -118,8 +113,8 @@ impl<'a> Sheet<'a> {
     /// The coverage that the sheet holds.
     pub fn coverage(&self) -> Result<Coverage> {
         // SAFETY: pointer and length are of one slice.
-        Coverage::made(|begins, ends, out| unsafe {
-            ffi::yz_coverage_from_sheet(self.bytes.as_ptr(), self.bytes.len(), begins, ends, out)
+        Coverage::made(|begins, ends| unsafe {
+            ffi::yz_coverage_from_sheet(self.bytes.as_ptr(), self.bytes.len(), begins, ends)
         })
     }
 }
@@ -145,14 +140,13 @@ impl<'a> CanonicalList<'a> {
     /// The coverage that the list tells, read as a section of its own.
     pub fn coverage(&self) -> Result<Coverage> {
         // SAFETY: pointer and length are of one slice.
-        Coverage::made(|begins, ends, out| unsafe {
-            ffi::yz_coverage_from_canonical(
-                self.bytes.as_ptr(),
-                self.bytes.len(),
-                begins,
-                ends,
-                out,
-            )
+        Coverage::made(|begins, ends| unsafe {
+            ffi::yz_coverage_from_canonical(self.bytes.as_ptr(), self.bytes.len(), begins, ends)
         })
+    }
+    /// Whether the bytes, no more and no fewer, are the canonical list of some coverage.
+    pub fn is_canonical(&self) -> bool {
+        // SAFETY: pointer and length are of one slice.
+        unsafe { ffi::yz_is_canonical(self.bytes.as_ptr(), self.bytes.len()) }
     }
 }

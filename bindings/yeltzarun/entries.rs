@@ -1,8 +1,9 @@
 //! Entries of lists, as they are written and as they are yielded.
 
-use super::DebugAddrIndex;
 use super::ffi;
+use super::ffi::{location_kind, range_kind};
 use super::reader::part;
+use super::{DebugAddrIndex, Error, Result};
 
 /// The addresses from `begin` up to, and without, `end`.
 #[derive(Debug, Clone, Copy, PartialEq, Eq, PartialOrd, Ord, Hash)]
@@ -11,6 +12,12 @@ pub struct Range {
     pub begin: u64,
     /// The first address past the end.
     pub end: u64,
+}
+
+impl Range {
+    pub(super) fn of(range: ffi::Range) -> Range {
+        Range { begin: range.begin, end: range.end }
+    }
 }
 
 /// The operations that find a value, as a part of the section.
@@ -26,8 +33,21 @@ impl<'a> Expression<'a> {
         Expression { bytes, offset: 0 }
     }
 
-    pub(super) fn in_section(section: &'a [u8], offset: u64, len: u64) -> Expression<'a> {
-        Expression { bytes: part(section, offset, len), offset: offset as usize }
+    /// The expression of an offset and a length in a section; none where they don't lie in there.
+    pub fn in_section(section: &'a [u8], offset: u64, length: u64) -> Expression<'a> {
+        let given = ffi::Part { offset, length };
+        // SAFETY: pointer and length are of one slice.
+        let lying = unsafe { ffi::yz_expression(section.as_ptr(), section.len(), given) };
+        Expression::at(section, lying)
+    }
+
+    /// The expression of a part that lies in the section, as those of the library's answers do.
+    pub(super) fn at(section: &'a [u8], at: ffi::Part) -> Expression<'a> {
+        Expression { bytes: part(section, at.offset, at.length), offset: at.offset as usize }
+    }
+
+    fn part(&self) -> ffi::Part {
+        ffi::Part { offset: self.offset as u64, length: self.bytes.len() as u64 }
     }
 
     /// The expression's bytes.
@@ -64,35 +84,36 @@ pub enum RawRngListEntry {
 }
 
 impl RawRngListEntry {
-    pub(super) fn of_words(words: ffi::Eight) -> RawRngListEntry {
+    pub(super) fn of(entry: ffi::RangeEntry) -> Result<RawRngListEntry> {
         use RawRngListEntry::*;
-        let [_, _, kind, first, second, ..] = words;
-        match kind {
-            0 => AddressOrOffsetPair { begin: first, end: second },
-            1 => BaseAddressx { addr: DebugAddrIndex(first) },
-            2 => StartxEndx { begin: DebugAddrIndex(first), end: DebugAddrIndex(second) },
-            3 => StartxLength { begin: DebugAddrIndex(first), length: second },
-            4 => OffsetPair { begin: first, end: second },
-            5 => BaseAddress { addr: first },
-            6 => StartEnd { begin: first, end: second },
-            7 => StartLength { begin: first, length: second },
-            _ => unreachable!("the library has no range kind {kind}"),
-        }
+        let ffi::RangeEntry { kind, first, second } = entry;
+        let index = DebugAddrIndex;
+        Ok(match kind {
+            range_kind::ADDRESS_OR_OFFSET_PAIR => AddressOrOffsetPair { begin: first, end: second },
+            range_kind::BASE_ADDRESSX => BaseAddressx { addr: index(first) },
+            range_kind::STARTX_ENDX => StartxEndx { begin: index(first), end: index(second) },
+            range_kind::STARTX_LENGTH => StartxLength { begin: index(first), length: second },
+            range_kind::OFFSET_PAIR => OffsetPair { begin: first, end: second },
+            range_kind::BASE_ADDRESS => BaseAddress { addr: first },
+            range_kind::START_END => StartEnd { begin: first, end: second },
+            range_kind::START_LENGTH => StartLength { begin: first, length: second },
+            _ => return Err(Error::Unknown(0, kind)),
+        })
     }
 
-    /// The kind's code and the entry's numbers.
-    pub(super) fn words(self) -> [u64; 3] {
+    pub(super) fn entry(self) -> ffi::RangeEntry {
         use RawRngListEntry::*;
-        match self {
-            AddressOrOffsetPair { begin, end } => [0, begin, end],
-            BaseAddressx { addr } => [1, addr.0, 0],
-            StartxEndx { begin, end } => [2, begin.0, end.0],
-            StartxLength { begin, length } => [3, begin.0, length],
-            OffsetPair { begin, end } => [4, begin, end],
-            BaseAddress { addr } => [5, addr, 0],
-            StartEnd { begin, end } => [6, begin, end],
-            StartLength { begin, length } => [7, begin, length],
-        }
+        let (kind, first, second) = match self {
+            AddressOrOffsetPair { begin, end } => (range_kind::ADDRESS_OR_OFFSET_PAIR, begin, end),
+            BaseAddressx { addr } => (range_kind::BASE_ADDRESSX, addr.0, 0),
+            StartxEndx { begin, end } => (range_kind::STARTX_ENDX, begin.0, end.0),
+            StartxLength { begin, length } => (range_kind::STARTX_LENGTH, begin.0, length),
+            OffsetPair { begin, end } => (range_kind::OFFSET_PAIR, begin, end),
+            BaseAddress { addr } => (range_kind::BASE_ADDRESS, addr, 0),
+            StartEnd { begin, end } => (range_kind::START_END, begin, end),
+            StartLength { begin, length } => (range_kind::START_LENGTH, begin, length),
+        };
+        ffi::RangeEntry { kind, first, second }
     }
 }
 
@@ -121,38 +142,61 @@ pub enum RawLocListEntry<'a> {
 }
 
 impl<'a> RawLocListEntry<'a> {
-    pub(super) fn of_words(section: &'a [u8], words: ffi::Eight) -> RawLocListEntry<'a> {
+    pub(super) fn of(section: &'a [u8], entry: ffi::LocationEntry) -> Result<RawLocListEntry<'a>> {
         use RawLocListEntry::*;
-        let [_, _, kind, first, second, offset, len, _] = words;
-        let data = Expression::in_section(section, offset, len);
-        match kind {
-            0 => AddressOrOffsetPair { begin: first, end: second, data },
-            1 => BaseAddressx { addr: DebugAddrIndex(first) },
-            2 => StartxEndx { begin: DebugAddrIndex(first), end: DebugAddrIndex(second), data },
-            3 => StartxLength { begin: DebugAddrIndex(first), length: second, data },
-            4 => OffsetPair { begin: first, end: second, data },
-            5 => DefaultLocation { data },
-            6 => BaseAddress { addr: first },
-            7 => StartEnd { begin: first, end: second, data },
-            8 => StartLength { begin: first, length: second, data },
-            _ => unreachable!("the library has no location kind {kind}"),
+        let ffi::LocationEntry { kind, first, second, expression } = entry;
+        let (index, data) = (DebugAddrIndex, Expression::at(section, expression));
+        Ok(match kind {
+            location_kind::ADDRESS_OR_OFFSET_PAIR => {
+                AddressOrOffsetPair { begin: first, end: second, data }
+            }
+            location_kind::BASE_ADDRESSX => BaseAddressx { addr: index(first) },
+            location_kind::STARTX_ENDX => {
+                StartxEndx { begin: index(first), end: index(second), data }
+            }
+            location_kind::STARTX_LENGTH => {
+                StartxLength { begin: index(first), length: second, data }
+            }
+            location_kind::OFFSET_PAIR => OffsetPair { begin: first, end: second, data },
+            location_kind::DEFAULT_LOCATION => DefaultLocation { data },
+            location_kind::BASE_ADDRESS => BaseAddress { addr: first },
+            location_kind::START_END => StartEnd { begin: first, end: second, data },
+            location_kind::START_LENGTH => StartLength { begin: first, length: second, data },
+            _ => return Err(Error::Unknown(0, kind)),
+        })
+    }
+
+    /// The entry's expression, none where its kind has none.
+    pub(super) fn data(self) -> Expression<'a> {
+        use RawLocListEntry::*;
+        match self {
+            AddressOrOffsetPair { data, .. }
+            | StartxEndx { data, .. }
+            | StartxLength { data, .. }
+            | OffsetPair { data, .. }
+            | DefaultLocation { data }
+            | StartEnd { data, .. }
+            | StartLength { data, .. } => data,
+            BaseAddress { .. } | BaseAddressx { .. } => Expression::new(&[]),
         }
     }
 
-    /// The kind's code, the entry's numbers, and its expression.
-    pub(super) fn words(self) -> ([u64; 3], Expression<'a>) {
+    pub(super) fn entry(self) -> ffi::LocationEntry {
         use RawLocListEntry::*;
-        match self {
-            AddressOrOffsetPair { begin, end, data } => ([0, begin, end], data),
-            BaseAddressx { addr } => ([1, addr.0, 0], Expression::new(&[])),
-            StartxEndx { begin, end, data } => ([2, begin.0, end.0], data),
-            StartxLength { begin, length, data } => ([3, begin.0, length], data),
-            OffsetPair { begin, end, data } => ([4, begin, end], data),
-            DefaultLocation { data } => ([5, 0, 0], data),
-            BaseAddress { addr } => ([6, addr, 0], Expression::new(&[])),
-            StartEnd { begin, end, data } => ([7, begin, end], data),
-            StartLength { begin, length, data } => ([8, begin, length], data),
-        }
+        let (kind, first, second) = match self {
+            AddressOrOffsetPair { begin, end, .. } => {
+                (location_kind::ADDRESS_OR_OFFSET_PAIR, begin, end)
+            }
+            BaseAddressx { addr } => (location_kind::BASE_ADDRESSX, addr.0, 0),
+            StartxEndx { begin, end, .. } => (location_kind::STARTX_ENDX, begin.0, end.0),
+            StartxLength { begin, length, .. } => (location_kind::STARTX_LENGTH, begin.0, length),
+            OffsetPair { begin, end, .. } => (location_kind::OFFSET_PAIR, begin, end),
+            DefaultLocation { .. } => (location_kind::DEFAULT_LOCATION, 0, 0),
+            BaseAddress { addr } => (location_kind::BASE_ADDRESS, addr, 0),
+            StartEnd { begin, end, .. } => (location_kind::START_END, begin, end),
+            StartLength { begin, length, .. } => (location_kind::START_LENGTH, begin, length),
+        };
+        ffi::LocationEntry { kind, first, second, expression: self.data().part() }
     }
 }
 
@@ -163,4 +207,11 @@ pub struct LocationListEntry<'a> {
     pub range: Range,
     /// The expression.
     pub data: Expression<'a>,
+}
+
+impl<'a> LocationListEntry<'a> {
+    pub(super) fn of(section: &'a [u8], location: ffi::Location) -> LocationListEntry<'a> {
+        let ffi::Location { begin, end, expression } = location;
+        LocationListEntry { range: Range { begin, end }, data: Expression::at(section, expression) }
+    }
 }

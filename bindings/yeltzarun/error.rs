@@ -1,5 +1,6 @@
-//! Refusals, and answers by their result code.
+//! Refusals, and answers by their result.
 
+use super::ffi;
 use core::fmt;
 
 /// What a call gives: its answer or a refusal.
@@ -32,10 +33,17 @@ pub enum Error {
     NoSpace,
     /// The bytes or the ranges make no lawful sheet.
     BadSheet,
+    /// A list and its address table have different byte orders. The wrapper says so, before it asks
+    /// the library, which reads both in one order. A table without bytes goes with either.
+    MixedByteOrders,
+    /// A refusal's number and value, of a library that has more of them; or 0 and a result or kind
+    /// that is not known here. [`version`](super::version) tells such a library.
+    Unknown(u64, u64),
 }
 
 impl Error {
-    fn from_words(number: u64, value: u64) -> Error {
+    /// The refusal of the library that has a number and, where it has one, a value.
+    pub fn from_number(number: u64, value: u64) -> Error {
         match number {
             1 => Error::UnexpectedEof,
             2 => Error::BadUnsignedLeb128,
@@ -49,11 +57,11 @@ impl Error {
             10 => Error::TooManyRanges,
             11 => Error::NoSpace,
             12 => Error::BadSheet,
-            _ => unreachable!("the library has no refusal {number}"),
+            _ => Error::Unknown(number, value),
         }
     }
 
-    /// The refusal's number, 1 to 12.
+    /// The refusal's number, 1 to 12; 0 for [`Error::MixedByteOrders`].
     pub fn number(self) -> u64 {
         match self {
             Error::UnexpectedEof => 1,
@@ -68,6 +76,8 @@ impl Error {
             Error::TooManyRanges => 10,
             Error::NoSpace => 11,
             Error::BadSheet => 12,
+            Error::MixedByteOrders => 0,
+            Error::Unknown(number, _) => number,
         }
     }
 
@@ -79,7 +89,8 @@ impl Error {
             | Error::UnknownVersion(value)
             | Error::UnsupportedAddressSize(value)
             | Error::UnsupportedSegmentSize(value)
-            | Error::UnknownReservedLength(value) => Some(value),
+            | Error::UnknownReservedLength(value)
+            | Error::Unknown(_, value) => Some(value),
             _ => None,
         }
     }
@@ -99,6 +110,8 @@ impl Error {
             Error::TooManyRanges => "TooManyRanges",
             Error::NoSpace => "NoSpace",
             Error::BadSheet => "BadSheet",
+            Error::MixedByteOrders => "MixedByteOrders",
+            Error::Unknown(..) => "Unknown",
         }
     }
 }
@@ -115,20 +128,18 @@ impl fmt::Display for Error {
 
 impl core::error::Error for Error {}
 
-/// The words by a result code: an item, nothing, or the refusal in words 2 and 3.
-pub(super) fn answered<const N: usize>(code: u64, words: [u64; N]) -> Result<Option<[u64; N]>> {
-    match code {
-        0 => Ok(Some(words)),
-        1 => Ok(None),
-        2 => Err(Error::from_words(words[2], words[3])),
-        _ => unreachable!("the library has no result code {code}"),
+impl<T> ffi::Answer<T> {
+    /// The item of a call that is done or refused.
+    pub(super) fn done(self) -> Result<T> {
+        match self.result {
+            ffi::DONE => Ok(self.item),
+            ffi::REFUSED => Err(Error::from_number(self.refusal.into(), self.refusal_value)),
+            result => Err(Error::Unknown(0, result.into())),
+        }
     }
-}
 
-/// The same for a call that has no end.
-pub(super) fn done<const N: usize>(code: u64, words: [u64; N]) -> Result<[u64; N]> {
-    match answered(code, words)? {
-        Some(words) => Ok(words),
-        None => unreachable!("a call without an end ended"),
+    /// The item of a call that has a result without one, too.
+    pub(super) fn done_unless(self, without: u32) -> Result<Option<T>> {
+        if self.result == without { Ok(None) } else { self.done().map(Some) }
     }
 }

@@ -1,13 +1,12 @@
 //! Location lists, plain and split.
 
 use super::coverage::filled;
-use super::error::{answered, done};
 use super::ffi;
-use super::walk::{Table, Walk, Written, location, range};
+use super::walk::{Table, Written};
 use super::{
     CanonicalList, Coverage, DebugAddr, DebugAddrBase, DebugLoc, DebugLocLists, DebugLocListsBase,
     DebugLocListsIndex, DwarfFileType, Encoding, EndianSlice, LocationListEntry,
-    LocationListsOffset, RawLocListEntry, Result,
+    LocationListsOffset, Range, RawLocListEntry, Result,
 };
 
 /// The sections with location lists.
@@ -23,9 +22,8 @@ impl<'a> LocationLists<'a> {
         LocationLists { debug_loc, debug_loclists }
     }
 
-    fn written(&self, encoding: Encoding, file_type: DwarfFileType) -> Written<'a> {
-        let split = file_type == DwarfFileType::Dwo;
-        Written::by_version(self.debug_loc.section, self.debug_loclists.section, encoding, split)
+    fn written(&self, encoding: Encoding) -> Written<'a> {
+        Written::by_version(self.debug_loc.section, self.debug_loclists.section, encoding)
     }
 
     /// A walk over the locations of the list at an offset.
@@ -37,9 +35,10 @@ impl<'a> LocationLists<'a> {
         debug_addr: &DebugAddr<'a>,
         debug_addr_base: DebugAddrBase,
     ) -> Result<LocListIter<'a>> {
-        let list = self.written(unit_encoding, DwarfFileType::Main);
-        let raw = RawLocListIter::open(list, offset, base_address)?;
-        Ok(LocListIter { raw, table: Table::new(debug_addr, debug_addr_base) })
+        let list = self.written(unit_encoding);
+        let table = list.table(debug_addr, debug_addr_base)?;
+        let raw = RawLocListIter::open(list, DwarfFileType::Main, offset, base_address)?;
+        Ok(LocListIter { raw, table })
     }
 
     /// The same for a section of a .dwo file.
@@ -51,9 +50,10 @@ impl<'a> LocationLists<'a> {
         debug_addr: &DebugAddr<'a>,
         debug_addr_base: DebugAddrBase,
     ) -> Result<LocListIter<'a>> {
-        let list = self.written(unit_encoding, DwarfFileType::Dwo);
-        let raw = RawLocListIter::open(list, offset, base_address)?;
-        Ok(LocListIter { raw, table: Table::new(debug_addr, debug_addr_base) })
+        let list = self.written(unit_encoding);
+        let table = list.table(debug_addr, debug_addr_base)?;
+        let raw = RawLocListIter::open(list, DwarfFileType::Dwo, offset, base_address)?;
+        Ok(LocListIter { raw, table })
     }
 
     /// A walk over the entries of the list at an offset as they are written.
@@ -62,7 +62,7 @@ impl<'a> LocationLists<'a> {
         offset: LocationListsOffset,
         unit_encoding: Encoding,
     ) -> Result<RawLocListIter<'a>> {
-        RawLocListIter::open(self.written(unit_encoding, DwarfFileType::Main), offset, 0)
+        RawLocListIter::open(self.written(unit_encoding), DwarfFileType::Main, offset, 0)
     }
 
     /// The same for a section of a .dwo file.
@@ -71,7 +71,7 @@ impl<'a> LocationLists<'a> {
         offset: LocationListsOffset,
         unit_encoding: Encoding,
     ) -> Result<RawLocListIter<'a>> {
-        RawLocListIter::open(self.written(unit_encoding, DwarfFileType::Dwo), offset, 0)
+        RawLocListIter::open(self.written(unit_encoding), DwarfFileType::Dwo, offset, 0)
     }
 
     /// The offset that an index has in the table at a base of `.debug_loclists`.
@@ -81,22 +81,12 @@ impl<'a> LocationLists<'a> {
         base: DebugLocListsBase,
         index: DebugLocListsIndex,
     ) -> Result<LocationListsOffset> {
-        let mut out = [0; 4];
-        let EndianSlice { section, endian, .. } = self.debug_loclists.section;
-        let (dwarf64, big) = (unit_encoding.format.is_dwarf64(), endian.is_big_endian());
+        let EndianSlice { section: s, endian, .. } = self.debug_loclists.section;
+        let encoding = unit_encoding.in_order(endian);
         // SAFETY: pointer and length are of one slice.
-        let code = unsafe {
-            ffi::yz_location_get_offset(
-                section.as_ptr(),
-                section.len(),
-                dwarf64,
-                base.0,
-                index.0,
-                big,
-                &mut out,
-            )
-        };
-        Ok(LocationListsOffset(done(code, out)?[2]))
+        let answer =
+            unsafe { ffi::yz_location_get_offset(s.as_ptr(), s.len(), encoding, base.0, index.0) };
+        answer.done().map(LocationListsOffset)
     }
 
     /// The first location that holds an address.
@@ -111,29 +101,25 @@ impl<'a> LocationLists<'a> {
         debug_addr_base: DebugAddrBase,
         address: u64,
     ) -> Result<Option<LocationListEntry<'a>>> {
-        let (l, t) =
-            (self.written(unit_encoding, file_type), Table::new(debug_addr, debug_addr_base));
-        let mut out = [0; 8];
+        let l = self.written(unit_encoding);
+        let t = l.table(debug_addr, debug_addr_base)?;
         // SAFETY: each pointer and length are of one slice.
-        let code = unsafe {
+        let answer = unsafe {
             ffi::yz_location_lookup(
                 l.ptr(),
                 l.len(),
                 t.ptr(),
                 t.len(),
-                t.base.0,
+                t.base,
+                l.encoding,
+                file_type.number(),
                 offset.0,
                 base_address,
-                l.size(),
-                l.dwarf64(),
-                l.version(),
-                l.big(),
-                l.split,
                 address,
-                &mut out,
             )
         };
-        Ok(answered(code, out)?.map(|words| location(l.section, words)))
+        let found = answer.done_unless(ffi::NOT_THERE)?;
+        Ok(found.map(|location| LocationListEntry::of(l.section, location)))
     }
 
     /// The addresses that the list at an offset covers.
@@ -146,26 +132,22 @@ impl<'a> LocationLists<'a> {
         debug_addr: &DebugAddr<'a>,
         debug_addr_base: DebugAddrBase,
     ) -> Result<Coverage> {
-        let (l, t) =
-            (self.written(unit_encoding, file_type), Table::new(debug_addr, debug_addr_base));
+        let l = self.written(unit_encoding);
+        let t = l.table(debug_addr, debug_addr_base)?;
         // SAFETY: each pointer and length are of one slice.
-        Coverage::made(|begins, ends, out| unsafe {
+        Coverage::made(|begins, ends| unsafe {
             ffi::yz_location_coverage(
                 l.ptr(),
                 l.len(),
                 t.ptr(),
                 t.len(),
-                t.base.0,
+                t.base,
+                l.encoding,
+                file_type.number(),
                 offset.0,
                 base_address,
-                l.size(),
-                l.dwarf64(),
-                l.version(),
-                l.big(),
-                l.split,
                 begins,
                 ends,
-                out,
             )
         })
     }
@@ -183,26 +165,22 @@ impl<'a> LocationLists<'a> {
         debug_addr_base: DebugAddrBase,
         output: &'o mut [u8],
     ) -> Result<CanonicalList<'o>> {
-        let (l, t) =
-            (self.written(unit_encoding, file_type), Table::new(debug_addr, debug_addr_base));
+        let l = self.written(unit_encoding);
+        let t = l.table(debug_addr, debug_addr_base)?;
         // SAFETY: each pointer and length are of one slice, and the output is lent alone.
-        let bytes = filled(output, |o, m, out| unsafe {
+        let bytes = filled(output, |o, m| unsafe {
             ffi::yz_location_canonical(
                 l.ptr(),
                 l.len(),
                 t.ptr(),
                 t.len(),
-                t.base.0,
+                t.base,
+                l.encoding,
+                file_type.number(),
                 offset.0,
                 base_address,
-                l.size(),
-                l.dwarf64(),
-                l.version(),
-                l.big(),
-                l.split,
                 o,
                 m,
-                out,
             )
         })?;
         Ok(CanonicalList::new(bytes))
@@ -213,52 +191,42 @@ impl<'a> LocationLists<'a> {
 #[derive(Debug, Clone)]
 pub struct RawLocListIter<'a> {
     list: Written<'a>,
-    walk: Walk,
+    walk: ffi::Walk,
 }
 
 impl<'a> RawLocListIter<'a> {
     fn open(
         list: Written<'a>,
+        file_type: DwarfFileType,
         offset: LocationListsOffset,
         base_address: u64,
     ) -> Result<RawLocListIter<'a>> {
-        let mut out = [0; 4];
+        let (l, mut walk) = (list, ffi::Walk::default());
         // SAFETY: pointer and length are of one slice.
-        let code = unsafe {
+        let answer = unsafe {
             ffi::yz_location_open(
-                list.ptr(),
-                list.len(),
+                l.ptr(),
+                l.len(),
+                l.encoding,
+                file_type.number(),
                 offset.0,
-                list.size(),
-                list.dwarf64(),
-                list.version(),
                 base_address,
-                &mut out,
+                &mut walk,
             )
         };
-        let words = done(code, out)?;
-        Ok(RawLocListIter { list, walk: Walk::of_words(&words) })
+        answer.done()?;
+        Ok(RawLocListIter { list, walk })
     }
 
     /// The next entry; after a refusal the list is over.
     #[allow(clippy::should_implement_trait)]
     pub fn next(&mut self) -> Result<Option<RawLocListEntry<'a>>> {
-        let (l, mut io) = (self.list, self.walk.eight());
+        let l = self.list;
         // SAFETY: pointer and length are of one slice.
-        let code = unsafe {
-            ffi::yz_location_next_raw(
-                l.ptr(),
-                l.len(),
-                l.size(),
-                l.dwarf64(),
-                l.version(),
-                l.big(),
-                l.split,
-                &mut io,
-            )
-        };
-        self.walk = Walk::of_words(&io);
-        Ok(answered(code, io)?.map(|words| RawLocListEntry::of_words(l.section, words)))
+        let answer =
+            unsafe { ffi::yz_location_next_raw(l.ptr(), l.len(), l.encoding, &mut self.walk) };
+        let entry = answer.done_unless(ffi::END)?;
+        entry.map(|entry| RawLocListEntry::of(l.section, entry)).transpose()
     }
 
     /// Where the walk stands in its section: behind the entry read last, or at the section's end.
@@ -279,25 +247,13 @@ impl<'a> LocListIter<'a> {
     /// following entry; after any other refusal the list is over.
     #[allow(clippy::should_implement_trait)]
     pub fn next(&mut self) -> Result<Option<LocationListEntry<'a>>> {
-        let (l, t, mut io) = (self.raw.list, self.table, self.raw.walk.eight());
+        let (l, t, walk) = (self.raw.list, self.table, &mut self.raw.walk);
         // SAFETY: each pointer and length are of one slice.
-        let code = unsafe {
-            ffi::yz_location_next(
-                l.ptr(),
-                l.len(),
-                t.ptr(),
-                t.len(),
-                t.base.0,
-                l.size(),
-                l.dwarf64(),
-                l.version(),
-                l.big(),
-                l.split,
-                &mut io,
-            )
+        let answer = unsafe {
+            ffi::yz_location_next(l.ptr(), l.len(), t.ptr(), t.len(), t.base, l.encoding, walk)
         };
-        self.raw.walk = Walk::of_words(&io);
-        Ok(answered(code, io)?.map(|words| location(l.section, words)))
+        let next = answer.done_unless(ffi::END)?;
+        Ok(next.map(|location| LocationListEntry::of(l.section, location)))
     }
 
     /// The next entry as it is written.
@@ -315,25 +271,17 @@ impl<'a> LocListIter<'a> {
         &mut self,
         raw_loc: RawLocListEntry<'a>,
     ) -> Result<Option<LocationListEntry<'a>>> {
-        let (l, t, mut io) = (self.raw.list, self.table, self.raw.walk.eight());
-        let (numbers, data) = raw_loc.words();
-        io[2..5].copy_from_slice(&numbers);
-        io[5..7].copy_from_slice(&[data.offset() as u64, data.bytes().len() as u64]);
+        let (l, t, walk) = (self.raw.list, self.table, &mut self.raw.walk);
+        let (entry, data) = (raw_loc.entry(), raw_loc.data());
         // SAFETY: pointer and length are of one slice.
-        let code = unsafe {
-            ffi::yz_location_convert_raw(
-                t.ptr(),
-                t.len(),
-                t.base.0,
-                l.size(),
-                l.dwarf64(),
-                l.version(),
-                l.big(),
-                &mut io,
-            )
+        let answer = unsafe {
+            ffi::yz_location_convert_raw(t.ptr(), t.len(), t.base, l.encoding, entry, walk)
         };
-        self.raw.walk = Walk::of_words(&io);
+        let converted = answer.done_unless(ffi::NOTHING)?;
         // The expression is handed on; it may be of another section than the walk's.
-        Ok(answered(code, io)?.map(|words| LocationListEntry { range: range(&words), data }))
+        Ok(converted.map(|ffi::Location { begin, end, .. }| LocationListEntry {
+            range: Range { begin, end },
+            data,
+        }))
     }
 }

@@ -1,8 +1,7 @@
 //! Sums of addresses, and numbers read from lent bytes.
 
-use super::error::done;
 use super::ffi;
-use super::{Format, Result, RunTimeEndian};
+use super::{Encoding, Format, Result, RunTimeEndian};
 
 /// Sums and bounds of addresses, by address size.
 pub trait ReaderAddress: Sized {
@@ -68,112 +67,112 @@ impl<'a> EndianSlice<'a> {
         self.len() == 0
     }
 
-    /// The words of a call at the place, which then moves.
+    /// A call at the place.
+    fn call<T>(
+        &self,
+        call: impl FnOnce(ffi::Ptr, usize, usize, bool) -> ffi::Answer<T>,
+    ) -> Result<T> {
+        let (s, big_endian) = (self.section, self.endian.is_big_endian());
+        call(s.as_ptr(), s.len(), self.at, big_endian).done()
+    }
+
+    /// The number of a call at the place, which then moves.
     fn read(
         &mut self,
-        call: impl FnOnce(ffi::Ptr, usize, usize, bool, &mut ffi::Four) -> u64,
-    ) -> Result<ffi::Four> {
-        let mut out = [0; 4];
-        let big = self.endian.is_big_endian();
-        let code = call(self.section.as_ptr(), self.section.len(), self.at, big, &mut out);
-        let words = done(code, out)?;
-        self.at = words[0] as usize;
-        Ok(words)
+        call: impl FnOnce(ffi::Ptr, usize, usize, bool) -> ffi::Answer<ffi::Read>,
+    ) -> Result<u64> {
+        let read = self.call(call)?;
+        self.at = read.next as usize;
+        Ok(read.number)
     }
 
     /// A number of one byte.
     pub fn read_u8(&mut self) -> Result<u8> {
         // SAFETY: pointer and length are of one slice.
-        let words = self.read(|s, n, at, _, out| unsafe { ffi::yz_read_u8(s, n, at, out) })?;
-        Ok(words[2] as u8)
+        let number = self.read(|s, n, at, _| unsafe { ffi::yz_read_u8(s, n, at) })?;
+        Ok(number as u8)
     }
 
     /// A number of two bytes.
     pub fn read_u16(&mut self) -> Result<u16> {
         // SAFETY: pointer and length are of one slice.
-        let words =
-            self.read(|s, n, at, big, out| unsafe { ffi::yz_read_u16(s, n, at, big, out) })?;
-        Ok(words[2] as u16)
+        let number = self.read(|s, n, at, big| unsafe { ffi::yz_read_u16(s, n, big, at) })?;
+        Ok(number as u16)
     }
 
     /// A number of four bytes.
     pub fn read_u32(&mut self) -> Result<u32> {
         // SAFETY: pointer and length are of one slice.
-        let words =
-            self.read(|s, n, at, big, out| unsafe { ffi::yz_read_u32(s, n, at, big, out) })?;
-        Ok(words[2] as u32)
+        let number = self.read(|s, n, at, big| unsafe { ffi::yz_read_u32(s, n, big, at) })?;
+        Ok(number as u32)
     }
 
     /// A number of eight bytes.
     pub fn read_u64(&mut self) -> Result<u64> {
         // SAFETY: pointer and length are of one slice.
-        let words =
-            self.read(|s, n, at, big, out| unsafe { ffi::yz_read_u64(s, n, at, big, out) })?;
-        Ok(words[2])
+        self.read(|s, n, at, big| unsafe { ffi::yz_read_u64(s, n, big, at) })
     }
 
     /// An unsigned LEB128 number.
     pub fn read_uleb128(&mut self) -> Result<u64> {
         // SAFETY: pointer and length are of one slice.
-        let words = self.read(|s, n, at, _, out| unsafe { ffi::yz_uleb128(s, n, at, out) })?;
-        Ok(words[2])
+        self.read(|s, n, at, _| unsafe { ffi::yz_uleb128(s, n, at) })
     }
 
     /// An address of a size.
     pub fn read_address(&mut self, address_size: u8) -> Result<u64> {
+        // Version and format make no difference.
+        let encoding = Encoding { address_size, format: Format::Dwarf32, version: 5 };
+        let encoding = encoding.in_order(self.endian);
         // SAFETY: pointer and length are of one slice.
-        let words = self.read(|s, n, at, big, out| unsafe {
-            ffi::yz_read_address(s, n, at, address_size, big, out)
-        })?;
-        Ok(words[2])
+        self.read(|s, n, at, _| unsafe { ffi::yz_read_address(s, n, encoding, at) })
     }
 
     /// An address size of one byte.
     pub fn read_address_size(&mut self) -> Result<u8> {
         // SAFETY: pointer and length are of one slice.
-        let words =
-            self.read(|s, n, at, _, out| unsafe { ffi::yz_read_address_size(s, n, at, out) })?;
-        Ok(words[2] as u8)
+        let number = self.read(|s, n, at, _| unsafe { ffi::yz_read_address_size(s, n, at) })?;
+        Ok(number as u8)
     }
 
     /// An offset of a format.
     pub fn read_offset(&mut self, format: Format) -> Result<u64> {
-        let dwarf64 = format.is_dwarf64();
+        // Version and address size make no difference.
+        let encoding = Encoding { address_size: 8, format, version: 5 }.in_order(self.endian);
         // SAFETY: pointer and length are of one slice.
-        let words = self.read(|s, n, at, big, out| unsafe {
-            ffi::yz_read_offset(s, n, at, dwarf64, big, out)
-        })?;
-        Ok(words[2])
+        self.read(|s, n, at, _| unsafe { ffi::yz_read_offset(s, n, encoding, at) })
     }
 
     /// An initial length and the format that it tells.
     pub fn read_initial_length(&mut self) -> Result<(u64, Format)> {
         // SAFETY: pointer and length are of one slice.
-        let words =
-            self.read(|s, n, at, big, out| unsafe { ffi::yz_initial_length(s, n, at, big, out) })?;
-        Ok((words[2], Format::of_word(words[3])))
+        let unit = self.call(|s, n, at, big| unsafe { ffi::yz_initial_length(s, n, big, at) })?;
+        self.at = unit.next as usize;
+        Ok((unit.length, Format::of(unit.dwarf64 != 0)))
     }
 
     /// Passes over some bytes.
     pub fn skip(&mut self, len: u64) -> Result<()> {
         // SAFETY: pointer and length are of one slice.
-        self.read(|s, n, at, _, out| unsafe { ffi::yz_skip(s, n, at, len, out) })?;
+        let next = self.call(|s, n, at, _| unsafe { ffi::yz_skip(s, n, at, len) })?;
+        self.at = next as usize;
         Ok(())
     }
 
     /// Takes some bytes off the front.
     pub fn split(&mut self, len: u64) -> Result<EndianSlice<'a>> {
         // SAFETY: pointer and length are of one slice.
-        let words = self.read(|s, n, at, _, out| unsafe { ffi::yz_split(s, n, at, len, out) })?;
-        Ok(EndianSlice::new(part(self.section, words[2], words[3]), self.endian))
+        let split = self.call(|s, n, at, _| unsafe { ffi::yz_split(s, n, at, len) })?;
+        self.at = split.next as usize;
+        let ffi::Part { offset, length } = split.part;
+        Ok(EndianSlice::new(part(self.section, offset, length), self.endian))
     }
 
     /// Cuts what is left to a length.
     pub fn truncate(&mut self, len: u64) -> Result<()> {
         // SAFETY: pointer and length are of one slice.
-        let words =
-            self.read(|s, n, at, _, out| unsafe { ffi::yz_truncate(s, n, at, len, out) })?;
-        self.section = part(self.section, 0, words[2]);
+        let end = self.call(|s, n, at, _| unsafe { ffi::yz_truncate(s, n, at, len) })?;
+        self.section = part(self.section, 0, end);
         Ok(())
     }
 }

@@ -1,9 +1,8 @@
 //! Range lists.
 
 use super::coverage::filled;
-use super::error::{answered, done};
 use super::ffi;
-use super::walk::{Table, Walk, Written, range};
+use super::walk::{Table, Written};
 use super::{
     CanonicalList, Coverage, DebugAddr, DebugAddrBase, DebugRanges, DebugRngLists,
     DebugRngListsBase, DebugRngListsIndex, Encoding, EndianSlice, Range, RangeListsOffset,
@@ -34,7 +33,7 @@ impl<'a> RangeLists<'a> {
     }
 
     fn written(&self, encoding: Encoding) -> Written<'a> {
-        Written::by_version(self.debug_ranges.section, self.debug_rnglists.section, encoding, false)
+        Written::by_version(self.debug_ranges.section, self.debug_rnglists.section, encoding)
     }
 
     /// A walk over the ranges of the list at an offset.
@@ -46,8 +45,9 @@ impl<'a> RangeLists<'a> {
         debug_addr: &DebugAddr<'a>,
         debug_addr_base: DebugAddrBase,
     ) -> Result<RngListIter<'a>> {
-        let raw = RawRngListIter::open(self.written(unit_encoding), offset, base_address)?;
-        Ok(RngListIter { raw, table: Table::new(debug_addr, debug_addr_base) })
+        let list = self.written(unit_encoding);
+        let table = list.table(debug_addr, debug_addr_base)?;
+        Ok(RngListIter { raw: RawRngListIter::open(list, offset, base_address)?, table })
     }
 
     /// A walk over the entries of the list at an offset as they are written.
@@ -66,22 +66,12 @@ impl<'a> RangeLists<'a> {
         base: DebugRngListsBase,
         index: DebugRngListsIndex,
     ) -> Result<RangeListsOffset> {
-        let mut out = [0; 4];
-        let EndianSlice { section, endian, .. } = self.debug_rnglists.section;
-        let (dwarf64, big) = (unit_encoding.format.is_dwarf64(), endian.is_big_endian());
+        let EndianSlice { section: s, endian, .. } = self.debug_rnglists.section;
+        let encoding = unit_encoding.in_order(endian);
         // SAFETY: pointer and length are of one slice.
-        let code = unsafe {
-            ffi::yz_range_get_offset(
-                section.as_ptr(),
-                section.len(),
-                dwarf64,
-                base.0,
-                index.0,
-                big,
-                &mut out,
-            )
-        };
-        Ok(RangeListsOffset(done(code, out)?[2]))
+        let answer =
+            unsafe { ffi::yz_range_get_offset(s.as_ptr(), s.len(), encoding, base.0, index.0) };
+        answer.done().map(RangeListsOffset)
     }
 
     /// The first range that holds an address.
@@ -94,27 +84,23 @@ impl<'a> RangeLists<'a> {
         debug_addr_base: DebugAddrBase,
         address: u64,
     ) -> Result<Option<Range>> {
-        let (l, t) = (self.written(unit_encoding), Table::new(debug_addr, debug_addr_base));
-        let mut out = [0; 4];
+        let l = self.written(unit_encoding);
+        let t = l.table(debug_addr, debug_addr_base)?;
         // SAFETY: each pointer and length are of one slice.
-        let code = unsafe {
+        let answer = unsafe {
             ffi::yz_range_lookup(
                 l.ptr(),
                 l.len(),
                 t.ptr(),
                 t.len(),
-                t.base.0,
+                t.base,
+                l.encoding,
                 offset.0,
                 base_address,
-                l.size(),
-                l.dwarf64(),
-                l.version(),
-                l.big(),
                 address,
-                &mut out,
             )
         };
-        Ok(answered(code, out)?.map(|words| range(&words)))
+        Ok(answer.done_unless(ffi::NOT_THERE)?.map(Range::of))
     }
 
     /// The addresses that the list at an offset covers.
@@ -126,24 +112,21 @@ impl<'a> RangeLists<'a> {
         debug_addr: &DebugAddr<'a>,
         debug_addr_base: DebugAddrBase,
     ) -> Result<Coverage> {
-        let (l, t) = (self.written(unit_encoding), Table::new(debug_addr, debug_addr_base));
+        let l = self.written(unit_encoding);
+        let t = l.table(debug_addr, debug_addr_base)?;
         // SAFETY: each pointer and length are of one slice.
-        Coverage::made(|begins, ends, out| unsafe {
+        Coverage::made(|begins, ends| unsafe {
             ffi::yz_range_coverage(
                 l.ptr(),
                 l.len(),
                 t.ptr(),
                 t.len(),
-                t.base.0,
+                t.base,
+                l.encoding,
                 offset.0,
                 base_address,
-                l.size(),
-                l.dwarf64(),
-                l.version(),
-                l.big(),
                 begins,
                 ends,
-                out,
             )
         })
     }
@@ -159,24 +142,21 @@ impl<'a> RangeLists<'a> {
         debug_addr_base: DebugAddrBase,
         output: &'o mut [u8],
     ) -> Result<CanonicalList<'o>> {
-        let (l, t) = (self.written(unit_encoding), Table::new(debug_addr, debug_addr_base));
+        let l = self.written(unit_encoding);
+        let t = l.table(debug_addr, debug_addr_base)?;
         // SAFETY: each pointer and length are of one slice, and the output is lent alone.
-        let bytes = filled(output, |o, m, out| unsafe {
+        let bytes = filled(output, |o, m| unsafe {
             ffi::yz_range_canonical(
                 l.ptr(),
                 l.len(),
                 t.ptr(),
                 t.len(),
-                t.base.0,
+                t.base,
+                l.encoding,
                 offset.0,
                 base_address,
-                l.size(),
-                l.dwarf64(),
-                l.version(),
-                l.big(),
                 o,
                 m,
-                out,
             )
         })?;
         Ok(CanonicalList::new(bytes))
@@ -187,7 +167,7 @@ impl<'a> RangeLists<'a> {
 #[derive(Debug, Clone)]
 pub struct RawRngListIter<'a> {
     list: Written<'a>,
-    walk: Walk,
+    walk: ffi::Walk,
 }
 
 impl<'a> RawRngListIter<'a> {
@@ -196,42 +176,23 @@ impl<'a> RawRngListIter<'a> {
         offset: RangeListsOffset,
         base_address: u64,
     ) -> Result<RawRngListIter<'a>> {
-        let mut out = [0; 4];
+        let (l, mut walk) = (list, ffi::Walk::default());
         // SAFETY: pointer and length are of one slice.
-        let code = unsafe {
-            ffi::yz_range_open(
-                list.ptr(),
-                list.len(),
-                offset.0,
-                list.size(),
-                list.dwarf64(),
-                list.version(),
-                base_address,
-                &mut out,
-            )
+        let answer = unsafe {
+            ffi::yz_range_open(l.ptr(), l.len(), l.encoding, offset.0, base_address, &mut walk)
         };
-        let words = done(code, out)?;
-        Ok(RawRngListIter { list, walk: Walk::of_words(&words) })
+        answer.done()?;
+        Ok(RawRngListIter { list, walk })
     }
 
     /// The next entry; after a refusal the list is over.
     #[allow(clippy::should_implement_trait)]
     pub fn next(&mut self) -> Result<Option<RawRngListEntry>> {
-        let (l, mut io) = (self.list, self.walk.eight());
+        let l = self.list;
         // SAFETY: pointer and length are of one slice.
-        let code = unsafe {
-            ffi::yz_range_next_raw(
-                l.ptr(),
-                l.len(),
-                l.size(),
-                l.dwarf64(),
-                l.version(),
-                l.big(),
-                &mut io,
-            )
-        };
-        self.walk = Walk::of_words(&io);
-        Ok(answered(code, io)?.map(RawRngListEntry::of_words))
+        let answer =
+            unsafe { ffi::yz_range_next_raw(l.ptr(), l.len(), l.encoding, &mut self.walk) };
+        answer.done_unless(ffi::END)?.map(RawRngListEntry::of).transpose()
     }
 
     /// Where the walk stands in its section: behind the entry read last, or at the section's end.
@@ -252,25 +213,12 @@ impl RngListIter<'_> {
     /// following entry; after any other refusal the list is over.
     #[allow(clippy::should_implement_trait)]
     pub fn next(&mut self) -> Result<Option<Range>> {
-        let (l, t, walk) = (self.raw.list, self.table, self.raw.walk);
-        let mut io = [walk.at, walk.base_address, 0, 0];
+        let (l, t, walk) = (self.raw.list, self.table, &mut self.raw.walk);
         // SAFETY: each pointer and length are of one slice.
-        let code = unsafe {
-            ffi::yz_range_next(
-                l.ptr(),
-                l.len(),
-                t.ptr(),
-                t.len(),
-                t.base.0,
-                l.size(),
-                l.dwarf64(),
-                l.version(),
-                l.big(),
-                &mut io,
-            )
+        let answer = unsafe {
+            ffi::yz_range_next(l.ptr(), l.len(), t.ptr(), t.len(), t.base, l.encoding, walk)
         };
-        self.raw.walk = Walk::of_words(&io);
-        Ok(answered(code, io)?.map(|words| range(&words)))
+        Ok(answer.done_unless(ffi::END)?.map(Range::of))
     }
 
     /// The next entry as it is written.
@@ -285,22 +233,11 @@ impl RngListIter<'_> {
 
     /// What an entry comes to: a range, or none. The walk's base address may change.
     pub fn convert_raw(&mut self, raw_range: RawRngListEntry) -> Result<Option<Range>> {
-        let (l, t, mut io) = (self.raw.list, self.table, self.raw.walk.eight());
-        io[2..5].copy_from_slice(&raw_range.words());
+        let (l, t, walk) = (self.raw.list, self.table, &mut self.raw.walk);
+        let entry = raw_range.entry();
         // SAFETY: pointer and length are of one slice.
-        let code = unsafe {
-            ffi::yz_range_convert_raw(
-                t.ptr(),
-                t.len(),
-                t.base.0,
-                l.size(),
-                l.dwarf64(),
-                l.version(),
-                l.big(),
-                &mut io,
-            )
-        };
-        self.raw.walk = Walk::of_words(&io);
-        Ok(answered(code, io)?.map(|words| range(&words)))
+        let answer =
+            unsafe { ffi::yz_range_convert_raw(t.ptr(), t.len(), t.base, l.encoding, entry, walk) };
+        Ok(answer.done_unless(ffi::NOTHING)?.map(Range::of))
     }
 }
