@@ -39,7 +39,10 @@ pub struct Program {
     split: RefCell<HashMap<usize, Outcome<Member>>>,
 }
 
-fn family(sections: &Rc<Sections>, skeleton: Option<&Unit>) -> Outcome<(Family, Vec<Rc<Unit>>)> {
+fn family(
+    sections: &Rc<Sections>,
+    skeleton: Option<&Rc<Unit>>,
+) -> Outcome<(Family, Vec<Rc<Unit>>)> {
     let (mut units, mut types) = (Vec::new(), Vec::new());
     for header in sections.headers()? {
         let in_types = matches!(header.offset(), gimli::UnitSectionOffset::DebugTypesOffset(_));
@@ -120,7 +123,7 @@ impl Program {
 }
 
 /// The unit with an id in a .dwo or .dwp file.
-fn split_of(file: &File, skeleton: &Unit, id: u64) -> Outcome<Option<Member>> {
+fn split_of(file: &File, skeleton: &Rc<Unit>, id: u64) -> Outcome<Option<Member>> {
     let mut sections = Sections::of(file, DwarfFileType::Dwo)?;
     if sections.endian != skeleton.sections.endian {
         let wrong = format!("{}: the byte order is not the program's", file.path);

@@ -98,6 +98,8 @@ pub struct Unit {
     /// The root entry's attributes.
     root: Vec<(DwAt, Value)>,
     str_offsets_base: Option<DebugStrOffsetsBase>,
+    /// The skeleton of a split unit.
+    skeleton: Option<Rc<Unit>>,
     pub context: Context,
     nodes: OnceCell<Outcome<Vec<Node>>>,
 }
@@ -133,7 +135,7 @@ impl Unit {
     pub fn new(
         sections: &Rc<Sections>,
         header: UnitHeader<Reader>,
-        skeleton: Option<&Unit>,
+        skeleton: Option<&Rc<Unit>>,
     ) -> Outcome<Unit> {
         let place = format!("{}, unit {:#x}", sections.path, unit_offset(&header));
         let parse = || Wrong::parse(&place);
@@ -215,6 +217,7 @@ impl Unit {
             abbreviations,
             root,
             str_offsets_base,
+            skeleton: skeleton.cloned(),
             context,
             nodes: OnceCell::new(),
         };
@@ -291,12 +294,13 @@ impl Unit {
         Some(bytes.to_string_lossy().chars().flat_map(printed).collect())
     }
 
-    /// The name of a file by its number in the unit's line table.
+    /// The name of a file by its number in the unit's line table, which a split unit shares with its
+    /// skeleton.
     pub fn file_name(&self, number: u64) -> Option<String> {
         let Some(Value::DebugLineRef(DebugLineOffset(offset))) =
             self.root_value(gimli::DW_AT_stmt_list)
         else {
-            return None;
+            return self.skeleton.as_ref()?.file_name(number);
         };
         let line = DebugLine::from(self.sections.reader(self.sections.line));
         let size = self.header.address_size();
