@@ -10,7 +10,7 @@
 //!
 //! Every difference is printed; the last line has their number, and the exit status is 1 where there are any.
 
-use object::{Object, ObjectSection, SectionKind};
+use object::{Object, ObjectSection, SectionFlags, elf};
 use std::collections::HashMap;
 use std::io::Write;
 use std::path::Path;
@@ -56,7 +56,7 @@ fn addresses(path: &str, count: usize) -> Vec<u64> {
     let object = object::File::parse(&bytes[..]).unwrap();
     let mut code = object
         .sections()
-        .filter(|section| section.kind() == SectionKind::Text && section.size() > 0)
+        .filter(|section| is_code(section.flags()) && section.size() > 0)
         .map(|section| (section.address(), section.size()))
         .collect::<Vec<_>>();
     code.sort();
@@ -72,6 +72,11 @@ fn addresses(path: &str, count: usize) -> Vec<u64> {
         left -= size;
     }
     addresses
+}
+
+/// Whether a section has code; in a file with debug information alone its bytes are missing.
+fn is_code(flags: SectionFlags) -> bool {
+    matches!(flags, SectionFlags::Elf { sh_flags } if sh_flags & u64::from(elf::SHF_EXECINSTR) != 0)
 }
 
 /// A tool's output for words on its standard input.
@@ -329,16 +334,17 @@ fn compare(words: &[&str], split: &[&Path]) -> ExitCode {
     counts.finish(file)
 }
 
-/// Whether addr2line has all routines but inlined ones whose ranges are a list of version 5, where llvm-symbolizer has
-/// these, too. binutils 2.40 does not find such a list by its index.
+/// Whether addr2line passes over inlined routines, at least one of which has its ranges in a list of version 5, where
+/// llvm-symbolizer has them all. binutils 2.40 does not find such a list by its index.
 fn lacks_indexed(answer: &Answer, gnu: &[String], llvm: &[String]) -> bool {
     let [stack] = &answer.stacks[..] else { return false };
-    let by_a_list = |one: &scope::Routine| one.inlined && matches!(one.held.source, Source::List(_));
-    let routines = || stack.routines.iter();
-    routines().any(by_a_list)
-        && stack.unit.context.encoding.version >= 5
-        && routines().map(linkage).eq(llvm.iter().map(String::as_str))
-        && routines().filter(|one| !by_a_list(one)).map(linkage).eq(gnu.iter().map(String::as_str))
+    let mut left = gnu.iter().map(String::as_str).peekable();
+    let passed_over = stack.routines.iter().filter(|one| left.next_if_eq(&linkage(one)).is_none()).collect::<Vec<_>>();
+    stack.unit.context.encoding.version >= 5
+        && stack.routines.iter().map(linkage).eq(llvm.iter().map(String::as_str))
+        && left.next().is_none()
+        && passed_over.iter().all(|one| one.inlined)
+        && passed_over.iter().any(|one| matches!(one.held.source, Source::List(_)))
 }
 
 fn linkage(routine: &scope::Routine) -> &str {
