@@ -74,15 +74,23 @@ static void same(fields got, const uint64_t *expected, int line, const char *wha
     check(all, line, what);
 }
 
-/* A call that answers by a type with these fields; all that follow must be 0. Where it can, the compiler lets the call write
- * over old bytes. */
+/* Bytes that become old; the pointer keeps the compiler from seeing to what end. */
+static void make_old(void *bytes, size_t n) { memset(bytes, OLD, n); }
+static void (*volatile old)(void *, size_t) = make_old;
+
+/* A call that answers by a type with these fields; all that follow must be 0. Most compilers have the call write its answer
+ * where the old one was. */
 #define IS(type, call, ...)                                                                                          \
     do {                                                                                                             \
         const uint64_t expected[FIELDS] = {__VA_ARGS__};                                                             \
-        yz_##type answer;                                                                                            \
-        memset(&answer, OLD, sizeof answer);                                                                         \
-        answer = call;                                                                                               \
-        same(of_##type(answer), expected, __LINE__, #call);                                                          \
+        do {                                                                                                         \
+            yz_##type stale;                                                                                         \
+            old(&stale, sizeof stale);                                                                               \
+        } while (0);                                                                                                 \
+        do {                                                                                                         \
+            const yz_##type answer = call;                                                                           \
+            same(of_##type(answer), expected, __LINE__, #call);                                                      \
+        } while (0);                                                                                                 \
     } while (0)
 
 /* The first fields of an answer. */
@@ -881,6 +889,7 @@ static void test_location_lookup(void) {
     LLOOKUP(LIST, little(4, 4), MAIN, 0, 0x12, CUT_SHORT);
 #undef LIST
     LLOOKUP(S("\x03\0\x08\0\0\0\x01\0"), little(4, 4), DWO, 0, 0x12, CUT_SHORT);
+    LLOOKUP(S("\x09\x04\x01\x02\0\0"), little(5, 4), MAIN, 1, 0x101, DONE, 0x101, 0x102, 5, 0);
     LLOOKUP(NO_BYTES, little(5, 4), MAIN, 0, 0, NOT_THERE);
     LLOOKUP(NO_BYTES, little(5, 4), MAIN, 1, 0, CUT_SHORT);
 }
@@ -950,7 +959,7 @@ static void test_range_coverage(void) {
     COVERS(COVER(S("\0"), little(5, 4), 1), 0);
     COVERS(COVER(APART(YZ_LIMIT), little(5, 4), 0), YZ_LIMIT);
     CHECK(range_is(0, 0, 1) && range_is(1023, 2046, 2047));
-    COVERS(yz_range_coverage(S("\x01\x03\0\0"), NO_BYTES, 0, big(4, 1), 0, 0x40, &begins, &ends), 1);
+    COVERS(yz_range_coverage(S("\x09\x01\x03\0\0"), NO_BYTES, 0, big(4, 1), 1, 0x40, &begins, &ends), 1);
     CHECK(range_is(0, 0x41, 0x43));
     REFUSES_COVERAGE(COVER(APART(YZ_LIMIT + 1), little(5, 4), 0), REFUSED(YZ_TOO_MANY_RANGES, 0));
     REFUSES_COVERAGE(COVER(S("\x07\x20\0\0\0\x10\x08"), little(5, 4), 0), REFUSED(YZ_UNKNOWN_RANGE_LISTS_ENTRY, 8));
@@ -979,6 +988,8 @@ static void test_location_coverage(void) {
     COVERS(LCOVER(DEFAULTS(YZ_LIMIT), little(5, 4), MAIN, 0), 1);
     CHECK(range_is(0, 0, MAX));
     COVERS(LCOVER(NO_BYTES, little(4, 4), MAIN, 0), 0);
+    COVERS(yz_location_coverage(S("\x09\x04\x01\x02\0\0"), NO_BYTES, 0, little(5, 4), MAIN, 1, 0x100, &begins, &ends), 1);
+    CHECK(range_is(0, 0x101, 0x102));
     REFUSES_COVERAGE(LCOVER(DEFAULTS(YZ_LIMIT + 1), little(5, 4), MAIN, 0), REFUSED(YZ_TOO_MANY_RANGES, 0));
     REFUSES_COVERAGE(LCOVER(S("\x04\x01\x02\0\x09"), little(5, 4), MAIN, 0), REFUSED(YZ_UNKNOWN_LOC_LISTS_ENTRY, 9));
     REFUSES_COVERAGE(LCOVER(S("\x03\x02\x08\0\0\0\0\0"), little(4, 4), DWO, 0), CUT_SHORT);
@@ -1158,7 +1169,7 @@ static void test_range_canonical(void) {
     WRITES(CANONICAL(TOUCHING, little(5, 4), 0, 64), TOUCHING_CANONICAL, 11);
     WRITES(CANONICAL(S("\x03\0\x20\0"), little(5, 4), 0, 64), TOUCHING_CANONICAL, 11);
     WRITES(CANONICAL(NO_BYTES, little(5, 4), 0, 1), "", 1);
-    WRITES(yz_range_canonical(S("\x10\x30\0\0"), NO_BYTES, 0, big(4, 1), 0, 0, output, 64), TOUCHING_CANONICAL, 11);
+    WRITES(yz_range_canonical(S("\x09\x01\x21\0\0"), NO_BYTES, 0, big(4, 1), 1, 0x0f, output, 64), TOUCHING_CANONICAL, 11);
     REFUSES_OUTPUT(CANONICAL(TOUCHING, little(5, 4), 0, 10), NO_ROOM);
     REFUSES_OUTPUT(yz_range_canonical(TOUCHING, NO_BYTES, 0, little(5, 4), 0, 0, NO_BYTES), NO_ROOM);
     REFUSES_OUTPUT(CANONICAL(S("\0"), little(5, 4), 0, 0), NO_ROOM);
@@ -1177,6 +1188,8 @@ static void test_location_canonical(void) {
     WRITES(LCANONICAL(LIST, little(4, 4), DWO, 0, 64), TOUCHING_CANONICAL, 11);
     WRITES(LCANONICAL(S("\x04\x10\x30\0\0"), little(5, 4), MAIN, 0, 11), TOUCHING_CANONICAL, 11);
     WRITES(LCANONICAL(NO_BYTES, little(5, 4), MAIN, 0, 1), "", 1);
+    WRITES(yz_location_canonical(S("\x09\x04\0\x20\0\0"), NO_BYTES, 0, little(5, 4), MAIN, 1, 0x10, output, 11),
+           TOUCHING_CANONICAL, 11);
     REFUSES_OUTPUT(LCANONICAL(S("\x04\x10\x30\0\0"), little(5, 4), MAIN, 0, 10), NO_ROOM);
     REFUSES_OUTPUT(LCANONICAL(LIST, little(4, 4), MAIN, 0, 64), CUT_SHORT);
     REFUSES_OUTPUT(LCANONICAL(S("\x09"), little(5, 4), MAIN, 0, 0), REFUSED(YZ_UNKNOWN_LOC_LISTS_ENTRY, 9));

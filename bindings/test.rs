@@ -27,7 +27,10 @@ impl Checks {
     }
 }
 
-const TESTS: &[(&str, fn(&mut Checks))] = &[
+/// A name, and what is run.
+type Test = (&'static str, fn(&mut Checks));
+
+const TESTS: &[Test] = &[
     ("yz_version", versions),
     ("yz_uleb128", uleb128),
     ("yz_read_u8", read_u8),
@@ -75,7 +78,7 @@ const TESTS: &[(&str, fn(&mut Checks))] = &[
 ];
 
 /// What the wrapper has beside its calls.
-const MORE_TESTS: &[(&str, fn(&mut Checks))] = &[
+const MORE_TESTS: &[Test] = &[
     ("Error", errors),
     ("Error::MixedByteOrders", byte_orders),
     ("Iterator", iterators),
@@ -864,6 +867,9 @@ fn location_next_raw(c: &mut Checks) {
     c.same(walk.next().map(|raw| raw.map(Ok).map(bytes_of)), Ok(Some(Ok((3, 1, 2, none, 8)))));
     c.same(walk.next(), Ok(None));
     let bare = &[0xff, 0x20, 3, 5, 1, 0, 0x50, 0, 0, 1];
+    let plain = location_lists(bare, Little);
+    let mut walk = plain.raw_locations(LocationListsOffset(2), encoding(4, 1)).unwrap();
+    c.same(walk.next().map(|raw| raw.map(Ok).map(bytes_of)), Ok(Some(Ok((0, 3, 5, &[0x50], 6)))));
     c.same(
         raw(bare, encoding(4, 1), false),
         vec![Ok((6, 0x20, 0, none, 0)), Ok((0, 3, 5, &[0x50], 6))],
@@ -1016,6 +1022,10 @@ fn location_coverage(c: &mut Checks) {
     c.same(cover(&[3, 2, 8, 0, 0, 0, 0, 0], 4, dwo), Err(EOF));
     c.same(cover(&[5, 0].repeat(1025), 5, main), Err(Error::TooManyRanges));
     c.same(cover(&[5, 0].repeat(1024), 5, main), Ok(vec![at(0, u64::MAX)]));
+    let (lists, none) = (location_lists(&[9, 4, 1, 2, 0, 0], Little), DebugAddr::default());
+    let (offset, five, base) = (LocationListsOffset(1), encoding(5, 4), DebugAddrBase(0));
+    let coverage = lists.coverage(offset, five, main, 0x100, &none, base);
+    c.same(is(coverage), Ok(vec![at(0x101, 0x102)]));
 }
 
 fn coverage_from_canonical(c: &mut Checks) {

@@ -7,8 +7,7 @@
  * x86-64. The calls over coverages take about 100 KB of stack, the others less than 1 KB.
  *
  * An answer is a struct. It begins with `result`; with YZ_REFUSED, `refusal` is the refusal's number and `refusal_value` its
- * value, 0 where it has none. Fields that the result does not name are 0. A comment "Refused: 6, 1" lists a call's refusals
- * by number, in the order in which they are looked for where that order is always the same.
+ * value, 0 where it has none. Fields that the result does not name are 0. What a call may be refused with stands at the call.
  *
  * Arguments stand in this order in all calls:
  *
@@ -168,7 +167,7 @@ typedef struct yz_part {
 
 /* A list that is walked. One made by hand is answered, too. */
 typedef struct yz_walk {
-    uint64_t at;           /* the place of the next entry in the section; at its end there is none */
+    uint64_t at;           /* the place of the next entry; from the section's end on there is none */
     uint64_t base_address; /* what the next offset pair is added to */
     uint64_t split;        /* not 0: a location list of a .dwo file, as told at its opening; range lists don't read it */
 } yz_walk;
@@ -323,10 +322,10 @@ yz_read yz_read_u32(const uint8_t *section, size_t section_len, bool big_endian,
 /* A number of eight bytes. Refused: 1. */
 yz_read yz_read_u64(const uint8_t *section, size_t section_len, bool big_endian, size_t at);
 
-/* An address of the encoding's size. Refused: 6, 1. */
+/* An address of the encoding's size. Refused: 6, then 1. */
 yz_read yz_read_address(const uint8_t *section, size_t section_len, yz_encoding encoding, size_t at);
 
-/* An address size of one byte. Refused: 1, 6. */
+/* An address size of one byte. Refused: 1, then 6. */
 yz_read yz_read_address_size(const uint8_t *section, size_t section_len, size_t at);
 
 /* An offset: four bytes, or eight in the 64-bit format. Refused: 1. */
@@ -366,7 +365,7 @@ yz_number yz_get_address(const uint8_t *debug_addr, size_t debug_addr_len, uint6
 yz_table_header yz_table_next(const uint8_t *debug_addr, size_t debug_addr_len, bool big_endian, uint64_t *at);
 
 /* The next address of a table. `entries` is what is left of its addresses; the call takes the address off its front, and on
- * a refusal leaves nothing of it. Done, end, or refused: 6, 1. A part that does not lie in the section has no addresses. */
+ * a refusal leaves nothing of it. Done, end, or refused: 6, then 1. A part that does not lie in the section has no addresses. */
 yz_number yz_table_entry_next(const uint8_t *debug_addr, size_t debug_addr_len, yz_encoding encoding,
                               yz_part *entries);
 
@@ -396,40 +395,40 @@ uint64_t yz_location_default_base(yz_encoding encoding, yz_file_type file_type);
 /* Which section a unit's lists stand in: the answer itself. */
 yz_section yz_section_of(yz_encoding encoding);
 
-/* A walk at the begin of a range list. Refused: 6, 1. */
+/* A walk at the begin of a range list. Refused: 6, then 1. */
 yz_done yz_range_open(const uint8_t *section, size_t section_len, yz_encoding encoding, uint64_t offset,
                       uint64_t base_address, yz_walk *walk);
 
-/* The next range. Done, end, or refused: 6, 1, 2, 3; 1 and 9 by the address table. */
+/* The next range. Done, end, or refused: 6 before all else; 1, 2, 3; 1 and 9 by the address table. */
 yz_range yz_range_next(const uint8_t *section, size_t section_len, const uint8_t *debug_addr, size_t debug_addr_len,
                        uint64_t debug_addr_base, yz_encoding encoding, yz_walk *walk);
 
-/* The next entry as it is written. Done, end, or refused: 6, 1, 2, 3. */
+/* The next entry as it is written. Done, end, or refused: 6 before all else; 1, 2, 3. */
 yz_raw_range yz_range_next_raw(const uint8_t *section, size_t section_len, yz_encoding encoding, yz_walk *walk);
 
-/* What such an entry comes to. Done: a range. Nothing: none, but perhaps another base address in the walk. Refused: 6, 3 for
- * a kind above 7; 1 and 9 by the address table. */
+/* What an entry comes to that yz_range_next_raw gave. Done: a range. Nothing: none, but perhaps another base address in the
+ * walk. Refused: 6, then 3 for a kind above 7; 1 and 9 by the address table. */
 yz_range yz_range_convert_raw(const uint8_t *debug_addr, size_t debug_addr_len, uint64_t debug_addr_base,
                               yz_encoding encoding, yz_range_entry entry, yz_walk *walk);
 
-/* A walk at the begin of a location list; it keeps whether the list is split. Refused: 6, 1. */
+/* A walk at the begin of a location list; it keeps whether the list is split. Refused: 6, then 1. */
 yz_done yz_location_open(const uint8_t *section, size_t section_len, yz_encoding encoding, yz_file_type file_type,
                          uint64_t offset, uint64_t base_address, yz_walk *walk);
 
-/* The next location. Done, end, or refused: 6, 1, 2, 4; 1 and 9 by the address table. */
+/* The next location. Done, end, or refused: 6 before all else; 1, 2, 4; 1 and 9 by the address table. */
 yz_location yz_location_next(const uint8_t *section, size_t section_len, const uint8_t *debug_addr,
                              size_t debug_addr_len, uint64_t debug_addr_base, yz_encoding encoding, yz_walk *walk);
 
-/* The next entry as it is written. Done, end, or refused: 6, 1, 2, 4. */
+/* The next entry as it is written. Done, end, or refused: 6 before all else; 1, 2, 4. */
 yz_raw_location yz_location_next_raw(const uint8_t *section, size_t section_len, yz_encoding encoding, yz_walk *walk);
 
-/* What such an entry comes to. Done: a location; the expression is handed on as it came in, whether or not it lies in a
- * section. Nothing: none, but perhaps another base address in the walk. Refused: 6, 4 for a kind above 8; 1 and 9 by the
- * address table. */
+/* What an entry comes to that yz_location_next_raw gave. Done: a location; the expression is handed on as it came in, whether
+ * or not it lies in a section. Nothing: none, but perhaps another base address in the walk. Refused: 6, then 4 for a kind
+ * above 8; 1 and 9 by the address table. */
 yz_location yz_location_convert_raw(const uint8_t *debug_addr, size_t debug_addr_len, uint64_t debug_addr_base,
                                     yz_encoding encoding, yz_location_entry entry, yz_walk *walk);
 
-/* An expression that is known to lie in its section: the part itself where it does, else 0 and 0. */
+/* For an expression that was not read from the section: the part itself where it lies in there, else 0 and 0. */
 yz_part yz_expression(const uint8_t *section, size_t section_len, yz_part expression);
 
 /* ---- Lookups: the first entry that holds an address. Done, not there, or refused as opening and .._next are, where that is
@@ -468,10 +467,10 @@ yz_count yz_coverage_from_sheet(const uint8_t *sheet, size_t sheet_len, yz_bound
 /* ---- Sheets and canonical lists: the bytes stand at the begin of output; those after them are not touched. A refused call
  * leaves the output as it was. ---- */
 
-/* The sheet of the first n ranges; what stands past them is not read. Refused: 12, 11. */
+/* The sheet of the first n ranges; what stands past them is not read. Refused: 12, then 11. */
 yz_count yz_sheet(uint64_t n, const yz_bounds *begins, const yz_bounds *ends, uint8_t *output, size_t output_len);
 
-/* The canonical list of the first n ranges; what stands past them is not read. Refused: 12, 11. */
+/* The canonical list of the first n ranges; what stands past them is not read. Refused: 12, then 11. */
 yz_count yz_canonical(uint64_t n, const yz_bounds *begins, const yz_bounds *ends, uint8_t *output, size_t output_len);
 
 /* The canonical list of a range list. Refused as yz_range_coverage is, then 11. */

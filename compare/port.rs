@@ -1,5 +1,4 @@
-//! The port through its C interface. `crates/ffi_words/src/lib.rt` says what
-//! each word is.
+//! The port through its C interface, as `bindings/yeltzarun.h` tells it.
 
 // The declarations of the wrapper, which take LIMIT from here.
 #[allow(dead_code)]
@@ -16,73 +15,110 @@ use oracle::oracle_api::{
 
 pub struct Ffi;
 
-/// What words hold before a call that hands none in: a call must write all.
+/// The last word of a range list's walk: no call may look at it or change it;
+/// and all words of a walk that is not opened yet.
 const OLD: u64 = 0x5555_5555_5555_5555;
 
-fn refusal(words: &[u64]) -> Refusal {
-    Refusal { number: words[2] as u8, value: words[3] }
-}
-
-fn place(offset: u64, length: u64) -> Place {
-    Place { offset, length }
-}
-
-fn flag(word: u64) -> bool {
-    assert!(word < 2);
-    word == 1
-}
-
-/// An answer by its code; the words that a code doesn't name must be 0.
-fn answer<T>(code: u64, words: &[u64], item: impl FnOnce(&[u64]) -> T) -> Answer<T> {
-    match code {
-        0 => Answer::Entry(item(words)),
-        1 => {
-            assert!(words[2..].iter().all(|&word| word == 0));
-            Answer::End
-        }
-        2 => {
-            assert!(words[4..].iter().all(|&word| word == 0));
-            Answer::Refused(refusal(words))
-        }
-        _ => panic!("no such result code: {code}"),
+/// An answer by its result, `without` being the one that has no item; the
+/// fields that a result doesn't name must be 0.
+fn answer<T: Default + PartialEq, U>(
+    answer: ffi::Answer<T>,
+    without: u32,
+    item: impl FnOnce(T) -> U,
+) -> Answer<U> {
+    let ffi::Answer { result, refusal, refusal_value: value, item: found } = answer;
+    assert!(result == DONE || found == T::default());
+    assert!(result == REFUSED || (refusal, value) == (0, 0));
+    match result {
+        DONE => Answer::Entry(item(found)),
+        REFUSED => Answer::Refused(Refusal { number: refusal as u8, value }),
+        result if result == without => Answer::End,
+        _ => panic!("no such result: {result}"),
     }
 }
 
-/// The same for a call that has no end.
-fn result<T>(code: u64, words: &[u64], item: impl FnOnce(&[u64]) -> T) -> Result<T, Refusal> {
-    match answer(code, words, item) {
+/// The same for a call that is done or refused.
+fn result<T: Default + PartialEq, U>(
+    given: ffi::Answer<T>,
+    item: impl FnOnce(T) -> U,
+) -> Result<U, Refusal> {
+    match answer(given, REFUSED, item) {
         Answer::Entry(item) => Ok(item),
-        Answer::End => panic!("a call without an end ended"),
         Answer::Refused(refusal) => Err(refusal),
+        Answer::End => unreachable!(),
     }
 }
 
-/// A call over one slice that hands no words in.
-fn four<T>(
-    bytes: &[u8],
-    call: impl FnOnce(*const u8, usize, &mut Four) -> u64,
-    item: impl FnOnce(&[u64]) -> T,
-) -> Result<T, Refusal> {
-    let mut words = [OLD; 4];
-    let code = call(bytes.as_ptr(), bytes.len(), &mut words);
-    result(code, &words, item)
+fn read(answer: ffi::Answer<Read>) -> Result<(u64, u64), Refusal> {
+    result(answer, |read| (read.number, read.next))
 }
 
-fn number(words: &[u64]) -> (u64, u64) {
-    (words[2], words[0])
+fn place(part: Part) -> Place {
+    Place { offset: part.offset, length: part.length }
 }
 
-fn state(words: &[u64]) -> State {
-    State { place: words[0], base_address: words[1] }
+fn encoding(list: &List) -> Encoding {
+    Encoding {
+        version: list.version,
+        address_size: list.address_size,
+        dwarf64: list.dwarf64,
+        big_endian: list.big_endian.into(),
+    }
 }
 
-fn range(words: &[u64]) -> Yielded {
-    Yielded { begin: words[2], end: words[3], expression: None }
+/// An encoding of which size, format and order count.
+fn written(address_size: u8, dwarf64: bool, big_endian: bool) -> Encoding {
+    Encoding { version: 5, address_size, dwarf64, big_endian: big_endian.into() }
 }
 
-fn location(words: &[u64]) -> Yielded {
-    let expression = Some(place(words[4], words[5]));
-    Yielded { begin: words[2], end: words[3], expression }
+/// Of a list's two sections the one that the port tells.
+fn section<'a>(list: &List<'a>) -> &'a [u8] {
+    if yz_section_of(encoding(list)) == SECTION_BEFORE_5 { list.old } else { list.new }
+}
+
+/// Section and table, each a pointer and a length.
+fn lent(list: &List) -> (Ptr, usize, Ptr, usize) {
+    let (s, t) = (section(list), list.table);
+    (s.as_ptr(), s.len(), t.as_ptr(), t.len())
+}
+
+fn file_type(list: &List) -> u32 {
+    if list.kind == Kind::SplitLocations { FILE_DWO } else { FILE_MAIN }
+}
+
+/// A walk's last word, by its list.
+fn split(list: &List) -> u64 {
+    match list.kind {
+        Kind::Ranges => OLD,
+        Kind::Locations => 0,
+        Kind::SplitLocations => 1,
+    }
+}
+
+fn walk(list: &List, state: State) -> Walk {
+    Walk { at: state.place, base_address: state.base_address, split: split(list) }
+}
+
+fn state(list: &List, walk: Walk) -> State {
+    assert!(walk.split == split(list));
+    State { place: walk.at, base_address: walk.base_address }
+}
+
+fn range(range: Range) -> Yielded {
+    Yielded { begin: range.begin, end: range.end, expression: None }
+}
+
+fn location(location: Location) -> Yielded {
+    let Location { begin, end, expression } = location;
+    Yielded { begin, end, expression: Some(place(expression)) }
+}
+
+/// The same of an answer that was read from the section: the expression lies
+/// there.
+fn location_in(section: &[u8], found: Location) -> Yielded {
+    let lying = unsafe { yz_expression(section.as_ptr(), section.len(), found.expression) };
+    assert!(lying == found.expression);
+    location(found)
 }
 
 const RANGES: [Form; 8] = [
@@ -112,114 +148,99 @@ fn forms(kind: Kind) -> &'static [Form] {
     if kind == Kind::Ranges { &RANGES } else { &LOCATIONS }
 }
 
-fn raw(kind: Kind, words: &[u64]) -> Raw {
-    let form = forms(kind)[words[2] as usize];
-    let located = kind != Kind::Ranges && !matches!(form, Form::Base | Form::BaseIndex);
-    assert!(located || words[5] == 0 && words[6] == 0);
-    let expression = located.then_some(place(words[5], words[6]));
-    Raw { form, first: words[3], second: words[4], expression }
+fn raw_range(entry: RangeEntry) -> Raw {
+    let RangeEntry { kind, first, second } = entry;
+    Raw { form: RANGES[kind as usize], first, second, expression: None }
 }
 
-fn split(list: &List) -> bool {
-    list.kind == Kind::SplitLocations
+fn raw_location(entry: LocationEntry) -> Raw {
+    let LocationEntry { kind, first, second, expression } = entry;
+    let form = LOCATIONS[kind as usize];
+    let located = !matches!(form, Form::Base | Form::BaseIndex);
+    assert!(located || expression == Part::default());
+    Raw { form, first, second, expression: located.then_some(place(expression)) }
 }
 
 impl Port for Ffi {
     fn open(&self, list: &List) -> Result<State, Refusal> {
-        let open = if list.kind == Kind::Ranges { yz_range_open } else { yz_location_open };
-        let l = list;
-        four(
-            list.section(),
-            |s, n, out| unsafe {
-                open(s, n, l.offset, l.address_size, l.dwarf64, l.version, l.base_address, out)
-            },
-            state,
-        )
-    }
-
-    fn next(&self, list: &List, walk: State) -> (Answer<Yielded>, State) {
-        let (l, s, t) = (list, list.section(), list.table);
-        let (p, n, q, m) = (s.as_ptr(), s.len(), t.as_ptr(), t.len());
-        let (size, wide, version, big) = (l.address_size, l.dwarf64, l.version, l.big_endian);
-        if l.kind == Kind::Ranges {
-            let mut io = [walk.place, walk.base_address, OLD, OLD];
-            let code = unsafe {
-                yz_range_next(p, n, q, m, l.table_base, size, wide, version, big, &mut io)
-            };
-            return (answer(code, &io, range), state(&io));
-        }
-        let mut io = [OLD; 8];
-        (io[0], io[1]) = (walk.place, walk.base_address);
-        let split = split(list);
-        let code = unsafe {
-            yz_location_next(p, n, q, m, l.table_base, size, wide, version, big, split, &mut io)
-        };
-        (answer(code, &io, location), state(&io))
-    }
-
-    fn next_raw(&self, list: &List, walk: State) -> (Answer<Raw>, State) {
-        let (l, s) = (list, list.section());
-        let (p, n) = (s.as_ptr(), s.len());
-        let (size, wide, version, big) = (l.address_size, l.dwarf64, l.version, l.big_endian);
-        let mut io = [OLD; 8];
-        (io[0], io[1]) = (walk.place, walk.base_address);
-        let code = if l.kind == Kind::Ranges {
-            unsafe { yz_range_next_raw(p, n, size, wide, version, big, &mut io) }
+        let (s, n, ..) = lent(list);
+        let (encoding, offset, base) = (encoding(list), list.offset, list.base_address);
+        let untouched = Walk { at: OLD, base_address: OLD, split: OLD };
+        let mut walk = untouched;
+        let opened = if list.kind == Kind::Ranges {
+            unsafe { yz_range_open(s, n, encoding, offset, base, &mut walk) }
         } else {
-            unsafe { yz_location_next_raw(p, n, size, wide, version, big, split(l), &mut io) }
+            let file_type = file_type(list);
+            unsafe { yz_location_open(s, n, encoding, file_type, offset, base, &mut walk) }
         };
-        (answer(code, &io, |words| raw(l.kind, words)), state(&io))
+        let opened = result(opened, |_| ());
+        assert!(opened.is_ok() || walk == untouched);
+        opened.map(|()| {
+            assert!(walk.split == u64::from(file_type(list)));
+            State { place: walk.at, base_address: walk.base_address }
+        })
     }
 
-    fn convert_raw(&self, list: &List, walk: State, entry: Raw) -> (Converted, State) {
-        let (l, t) = (list, list.table);
-        let (q, m) = (t.as_ptr(), t.len());
-        let (size, wide, version, big) = (l.address_size, l.dwarf64, l.version, l.big_endian);
-        let code = forms(l.kind).iter().position(|&form| form == entry.form).expect("a form");
-        let x = entry.expression.unwrap_or(place(OLD, OLD));
-        let State { place, base_address } = walk;
-        let (first, second) = (entry.first, entry.second);
-        let mut io = [place, base_address, code as u64, first, second, x.offset, x.length, OLD];
-        let (code, item): (u64, fn(&[u64]) -> Yielded) = if l.kind == Kind::Ranges {
-            let code = unsafe {
-                yz_range_convert_raw(q, m, l.table_base, size, wide, version, big, &mut io)
-            };
-            (code, range)
+    fn next(&self, list: &List, from: State) -> (Answer<Yielded>, State) {
+        let ((s, n, t, m), mut walk) = (lent(list), walk(list, from));
+        let (base, encoding) = (list.table_base, encoding(list));
+        let next = if list.kind == Kind::Ranges {
+            let next = unsafe { yz_range_next(s, n, t, m, base, encoding, &mut walk) };
+            answer(next, END, range)
         } else {
-            let code = unsafe {
-                yz_location_convert_raw(q, m, l.table_base, size, wide, version, big, &mut io)
-            };
-            (code, location)
+            let next = unsafe { yz_location_next(s, n, t, m, base, encoding, &mut walk) };
+            answer(next, END, |found| location_in(section(list), found))
         };
-        let converted = match answer(code, &io, item) {
+        (next, state(list, walk))
+    }
+
+    fn next_raw(&self, list: &List, from: State) -> (Answer<Raw>, State) {
+        let ((s, n, ..), mut walk) = (lent(list), walk(list, from));
+        let encoding = encoding(list);
+        let next = if list.kind == Kind::Ranges {
+            answer(unsafe { yz_range_next_raw(s, n, encoding, &mut walk) }, END, raw_range)
+        } else {
+            answer(unsafe { yz_location_next_raw(s, n, encoding, &mut walk) }, END, raw_location)
+        };
+        (next, state(list, walk))
+    }
+
+    fn convert_raw(&self, list: &List, from: State, entry: Raw) -> (Converted, State) {
+        let ((_, _, t, m), mut walk) = (lent(list), walk(list, from));
+        let (base, encoding) = (list.table_base, encoding(list));
+        let kind = forms(list.kind).iter().position(|&form| form == entry.form).expect("a form");
+        let (kind, first, second) = (kind as u64, entry.first, entry.second);
+        let converted = if list.kind == Kind::Ranges {
+            let entry = RangeEntry { kind, first, second };
+            let made = unsafe { yz_range_convert_raw(t, m, base, encoding, entry, &mut walk) };
+            answer(made, NOTHING, range)
+        } else {
+            let x = entry.expression.unwrap_or(Place { offset: OLD, length: OLD });
+            let expression = Part { offset: x.offset, length: x.length };
+            let entry = LocationEntry { kind, first, second, expression };
+            let made = unsafe { yz_location_convert_raw(t, m, base, encoding, entry, &mut walk) };
+            answer(made, NOTHING, location)
+        };
+        let converted = match converted {
             Answer::Entry(entry) => Converted::Entry(entry),
             Answer::End => Converted::Nothing,
             Answer::Refused(refusal) => Converted::Refused(refusal),
         };
-        (converted, state(&io))
+        (converted, state(list, walk))
     }
 
     fn lookup(&self, list: &List, address: u64) -> Found {
-        let (l, s, t) = (list, list.section(), list.table);
-        let (p, n, q, m) = (s.as_ptr(), s.len(), t.as_ptr(), t.len());
-        let (size, wide, version, big) = (l.address_size, l.dwarf64, l.version, l.big_endian);
-        let (from, offset, base) = (l.table_base, l.offset, l.base_address);
-        if l.kind == Kind::Ranges {
-            let mut out = [OLD; 4];
-            let code = unsafe {
-                yz_range_lookup(
-                    p, n, q, m, from, offset, base, size, wide, version, big, address, &mut out,
-                )
-            };
-            return answer(code, &out, range);
+        let (s, n, t, m) = lent(list);
+        let (base, encoding) = (list.table_base, encoding(list));
+        let (at, low) = (list.offset, list.base_address);
+        if list.kind == Kind::Ranges {
+            let found = unsafe { yz_range_lookup(s, n, t, m, base, encoding, at, low, address) };
+            return answer(found, NOT_THERE, range);
         }
-        let (mut out, split) = ([OLD; 8], split(l));
-        let code = unsafe {
-            yz_location_lookup(
-                p, n, q, m, from, offset, base, size, wide, version, big, split, address, &mut out,
-            )
-        };
-        answer(code, &out, location)
+        let file_type = file_type(list);
+        let found =
+            unsafe { yz_location_lookup(s, n, t, m, base, encoding, file_type, at, low, address) };
+        answer(found, NOT_THERE, |found| location_in(section(list), found))
     }
 
     fn get_address(
@@ -230,26 +251,26 @@ impl Port for Ffi {
         base: u64,
         index: u64,
     ) -> Result<u64, Refusal> {
-        four(
-            table,
-            |t, m, out| unsafe { yz_get_address(t, m, size, base, index, big_endian, out) },
-            |words| words[2],
-        )
+        let (t, m, encoding) = (table.as_ptr(), table.len(), written(size, false, big_endian));
+        result(unsafe { yz_get_address(t, m, base, encoding, index) }, |address| address)
     }
 
-    fn next_table(&self, section: &[u8], big_endian: bool, at: u64) -> (Answer<Table>, u64) {
-        let mut io = [OLD; 8];
-        io[0] = at;
-        let code = unsafe { yz_table_next(section.as_ptr(), section.len(), big_endian, &mut io) };
-        let table = answer(code, &io, |words| Table {
-            offset: words[2],
-            length: words[3],
-            dwarf64: flag(words[4]),
-            version: words[1] as u16,
-            address_size: words[5] as u8,
-            entries: place(words[6], words[7]),
+    fn next_table(&self, section: &[u8], big_endian: bool, from: u64) -> (Answer<Table>, u64) {
+        let (t, m, mut at) = (section.as_ptr(), section.len(), from);
+        let next = unsafe { yz_table_next(t, m, big_endian, &mut at) };
+        let table = answer(next, END, |header| {
+            let TableHeader { encoding, offset, length, entries } = header;
+            assert!(encoding.big_endian == u32::from(big_endian));
+            Table {
+                offset,
+                length,
+                dwarf64: encoding.dwarf64,
+                version: encoding.version,
+                address_size: encoding.address_size,
+                entries: place(entries),
+            }
         });
-        (table, io[0])
+        (table, at)
     }
 
     fn next_entry(
@@ -259,24 +280,25 @@ impl Port for Ffi {
         size: u8,
         rest: Place,
     ) -> (Answer<u64>, Place) {
-        let mut io = [rest.offset, rest.length, OLD, OLD];
-        let code = unsafe {
-            yz_table_entry_next(section.as_ptr(), section.len(), size, big_endian, &mut io)
-        };
-        (answer(code, &io, |words| words[2]), place(io[0], io[1]))
+        let (t, m, encoding) = (section.as_ptr(), section.len(), written(size, true, big_endian));
+        let mut left = Part { offset: rest.offset, length: rest.length };
+        let next = unsafe { yz_table_entry_next(t, m, encoding, &mut left) };
+        (answer(next, END, |address| address), place(left))
     }
 
     fn lists_header(&self, section: &[u8], big_endian: bool) -> Result<Lists, Refusal> {
-        let mut out = [OLD; 8];
-        let code =
-            unsafe { yz_lists_header(section.as_ptr(), section.len(), 0, big_endian, &mut out) };
-        result(code, &out, |words| Lists {
-            dwarf64: flag(words[2]),
-            version: words[1] as u16,
-            address_size: words[3] as u8,
-            entry_count: words[4] as u32,
-            size: words[5] as u8,
-            rest: place(words[6], words[7]),
+        let (s, n) = (section.as_ptr(), section.len());
+        result(unsafe { yz_lists_header(s, n, big_endian, 0) }, |header| {
+            let ListsHeader { encoding, offset_entry_count, header_size, rest } = header;
+            assert!(encoding.big_endian == u32::from(big_endian));
+            Lists {
+                dwarf64: encoding.dwarf64,
+                version: encoding.version,
+                address_size: encoding.address_size,
+                entry_count: offset_entry_count as u32,
+                size: header_size as u8,
+                rest: place(rest),
+            }
         })
     }
 
@@ -290,85 +312,74 @@ impl Port for Ffi {
         index: u64,
     ) -> Result<u64, Refusal> {
         let get = if kind == Kind::Ranges { yz_range_get_offset } else { yz_location_get_offset };
-        four(
-            section,
-            |s, n, out| unsafe { get(s, n, dwarf64, base, index, big_endian, out) },
-            |words| words[2],
-        )
+        let (s, n, encoding) = (section.as_ptr(), section.len(), written(0, dwarf64, big_endian));
+        result(unsafe { get(s, n, encoding, base, index) }, |offset| offset)
     }
 
     fn default_base(&self, kind: Kind, version: u16, dwarf64: bool, split_file: bool) -> u64 {
+        let encoding = Encoding { version, ..written(0, dwarf64, false) };
+        let file_type = if split_file { FILE_DWO } else { FILE_MAIN };
         if kind == Kind::Ranges {
-            yz_range_default_base(dwarf64, version, split_file)
+            yz_range_default_base(encoding, file_type)
         } else {
-            yz_location_default_base(dwarf64, version, split_file)
+            yz_location_default_base(encoding, file_type)
         }
     }
 
     fn uleb128(&self, bytes: &[u8]) -> Result<(u64, u64), Refusal> {
-        four(bytes, |s, n, out| unsafe { yz_uleb128(s, n, 0, out) }, number)
+        read(unsafe { yz_uleb128(bytes.as_ptr(), bytes.len(), 0) })
     }
 
     fn read_number(&self, bytes: &[u8], big: bool, width: u8) -> Result<(u64, u64), Refusal> {
-        four(
-            bytes,
-            |s, n, out| unsafe {
-                match width {
-                    1 => yz_read_u8(s, n, 0, out),
-                    2 => yz_read_u16(s, n, 0, big, out),
-                    4 => yz_read_u32(s, n, 0, big, out),
-                    8 => yz_read_u64(s, n, 0, big, out),
-                    _ => panic!("no number is {width} bytes wide"),
-                }
-            },
-            number,
-        )
+        let (s, n) = (bytes.as_ptr(), bytes.len());
+        read(unsafe {
+            match width {
+                1 => yz_read_u8(s, n, 0),
+                2 => yz_read_u16(s, n, big, 0),
+                4 => yz_read_u32(s, n, big, 0),
+                8 => yz_read_u64(s, n, big, 0),
+                _ => panic!("no number is {width} bytes wide"),
+            }
+        })
     }
 
     fn read_address(&self, bytes: &[u8], big: bool, size: u8) -> Result<(u64, u64), Refusal> {
-        four(bytes, |s, n, out| unsafe { yz_read_address(s, n, 0, size, big, out) }, number)
+        let encoding = written(size, false, big);
+        read(unsafe { yz_read_address(bytes.as_ptr(), bytes.len(), encoding, 0) })
     }
 
     fn read_offset(&self, bytes: &[u8], big: bool, dwarf64: bool) -> Result<(u64, u64), Refusal> {
-        four(bytes, |s, n, out| unsafe { yz_read_offset(s, n, 0, dwarf64, big, out) }, number)
+        let encoding = written(0, dwarf64, big);
+        read(unsafe { yz_read_offset(bytes.as_ptr(), bytes.len(), encoding, 0) })
     }
 
     fn initial_length(&self, bytes: &[u8], big: bool) -> Result<(u64, bool, u64), Refusal> {
-        four(
-            bytes,
-            |s, n, out| unsafe { yz_initial_length(s, n, 0, big, out) },
-            |words| (words[2], flag(words[3]), words[0]),
-        )
+        result(unsafe { yz_initial_length(bytes.as_ptr(), bytes.len(), big, 0) }, |unit| {
+            assert!(unit.dwarf64 < 2);
+            (unit.length, unit.dwarf64 == 1, unit.next)
+        })
     }
 
     fn read_address_size(&self, bytes: &[u8]) -> Result<(u8, u64), Refusal> {
-        four(
-            bytes,
-            |s, n, out| unsafe { yz_read_address_size(s, n, 0, out) },
-            |words| (words[2] as u8, words[0]),
-        )
+        let read = read(unsafe { yz_read_address_size(bytes.as_ptr(), bytes.len(), 0) });
+        read.map(|(size, next)| (size as u8, next))
     }
 
     fn skip(&self, bytes: &[u8], count: u64) -> Result<Place, Refusal> {
-        let left = |at: u64| place(at, bytes.len() as u64 - at);
-        four(bytes, |s, n, out| unsafe { yz_skip(s, n, 0, count, out) }, |words| left(words[0]))
+        let left = |at: u64| Place { offset: at, length: bytes.len() as u64 - at };
+        result(unsafe { yz_skip(bytes.as_ptr(), bytes.len(), 0, count) }, left)
     }
 
     fn split(&self, bytes: &[u8], count: u64) -> Result<(Place, Place), Refusal> {
-        let left = |at: u64| place(at, bytes.len() as u64 - at);
-        four(
-            bytes,
-            |s, n, out| unsafe { yz_split(s, n, 0, count, out) },
-            |words| (place(words[2], words[3]), left(words[0])),
-        )
+        let left = |at: u64| Place { offset: at, length: bytes.len() as u64 - at };
+        result(unsafe { yz_split(bytes.as_ptr(), bytes.len(), 0, count) }, |split| {
+            (place(split.part), left(split.next))
+        })
     }
 
     fn truncate(&self, bytes: &[u8], length: u64) -> Result<Place, Refusal> {
-        four(
-            bytes,
-            |s, n, out| unsafe { yz_truncate(s, n, 0, length, out) },
-            |words| place(words[0], words[2] - words[0]),
-        )
+        let cut = |end: u64| Place { offset: 0, length: end };
+        result(unsafe { yz_truncate(bytes.as_ptr(), bytes.len(), 0, length) }, cut)
     }
 
     fn wrapping_add_sized(&self, address: u64, length: u64, size: u8) -> u64 {
@@ -380,101 +391,54 @@ impl Port for Ffi {
     }
 }
 
-/// A call that answers with a count; the words that aren't named must be 0.
-fn wrote(call: impl FnOnce(&mut Four) -> u64) -> Wrote {
-    let mut words = [OLD; 4];
-    let code = call(&mut words);
-    let unnamed = if code == 0 { &words[1..] } else { &words[..2] };
-    assert!(unnamed.iter().all(|&word| word == 0));
-    result(code, &words, |words| words[0])
+fn wrote(answer: ffi::Answer<u64>) -> Wrote {
+    result(answer, |count| count)
 }
 
 impl Added for Ffi {
     fn coverage(&self, list: &List, kept: &mut Kept) -> Wrote {
-        let (l, s, t) = (list, list.section(), list.table);
-        let (p, n, q, m) = (s.as_ptr(), s.len(), t.as_ptr(), t.len());
-        let (size, wide, version, big) = (l.address_size, l.dwarf64, l.version, l.big_endian);
-        let (from, offset, base) = (l.table_base, l.offset, l.base_address);
+        let (s, n, t, m) = lent(list);
+        let (base, encoding) = (list.table_base, encoding(list));
+        let (at, low) = (list.offset, list.base_address);
         let Kept { begins, ends } = kept;
-        wrote(|out| unsafe {
-            if l.kind == Kind::Ranges {
-                yz_range_coverage(
-                    p, n, q, m, from, offset, base, size, wide, version, big, begins, ends, out,
-                )
-            } else {
-                yz_location_coverage(
-                    p,
-                    n,
-                    q,
-                    m,
-                    from,
-                    offset,
-                    base,
-                    size,
-                    wide,
-                    version,
-                    big,
-                    split(l),
-                    begins,
-                    ends,
-                    out,
-                )
-            }
+        wrote(if list.kind == Kind::Ranges {
+            unsafe { yz_range_coverage(s, n, t, m, base, encoding, at, low, begins, ends) }
+        } else {
+            let file = file_type(list);
+            unsafe { yz_location_coverage(s, n, t, m, base, encoding, file, at, low, begins, ends) }
         })
     }
 
     fn coverage_from_canonical(&self, bytes: &[u8], kept: &mut Kept) -> Wrote {
-        let (p, n) = (bytes.as_ptr(), bytes.len());
-        let Kept { begins, ends } = kept;
-        wrote(|out| unsafe { yz_coverage_from_canonical(p, n, begins, ends, out) })
+        let (s, n) = (bytes.as_ptr(), bytes.len());
+        wrote(unsafe { yz_coverage_from_canonical(s, n, &mut kept.begins, &mut kept.ends) })
     }
 
     fn coverage_from_sheet(&self, sheet: &[u8], kept: &mut Kept) -> Wrote {
-        let (p, n) = (sheet.as_ptr(), sheet.len());
-        let Kept { begins, ends } = kept;
-        wrote(|out| unsafe { yz_coverage_from_sheet(p, n, begins, ends, out) })
+        let (s, n) = (sheet.as_ptr(), sheet.len());
+        wrote(unsafe { yz_coverage_from_sheet(s, n, &mut kept.begins, &mut kept.ends) })
     }
 
     fn sheet(&self, n: u64, kept: &Kept, output: &mut [u8]) -> Wrote {
-        let (o, k) = (output.as_mut_ptr(), output.len());
-        wrote(|out| unsafe { yz_sheet(n, &kept.begins, &kept.ends, o, k, out) })
+        let (o, len) = (output.as_mut_ptr(), output.len());
+        wrote(unsafe { yz_sheet(n, &kept.begins, &kept.ends, o, len) })
     }
 
     fn canonical(&self, n: u64, kept: &Kept, output: &mut [u8]) -> Wrote {
-        let (o, k) = (output.as_mut_ptr(), output.len());
-        wrote(|out| unsafe { yz_canonical(n, &kept.begins, &kept.ends, o, k, out) })
+        let (o, len) = (output.as_mut_ptr(), output.len());
+        wrote(unsafe { yz_canonical(n, &kept.begins, &kept.ends, o, len) })
     }
 
     fn canonical_of(&self, list: &List, output: &mut [u8]) -> Wrote {
-        let (l, s, t) = (list, list.section(), list.table);
-        let (p, n, q, m) = (s.as_ptr(), s.len(), t.as_ptr(), t.len());
-        let (size, wide, version, big) = (l.address_size, l.dwarf64, l.version, l.big_endian);
-        let (from, offset, base) = (l.table_base, l.offset, l.base_address);
-        let (o, k) = (output.as_mut_ptr(), output.len());
-        wrote(|out| unsafe {
-            if l.kind == Kind::Ranges {
-                yz_range_canonical(
-                    p, n, q, m, from, offset, base, size, wide, version, big, o, k, out,
-                )
-            } else {
-                yz_location_canonical(
-                    p,
-                    n,
-                    q,
-                    m,
-                    from,
-                    offset,
-                    base,
-                    size,
-                    wide,
-                    version,
-                    big,
-                    split(l),
-                    o,
-                    k,
-                    out,
-                )
-            }
+        let (s, n, t, m) = lent(list);
+        let (base, encoding) = (list.table_base, encoding(list));
+        let (at, low) = (list.offset, list.base_address);
+        let (o, len) = (output.as_mut_ptr(), output.len());
+        wrote(if list.kind == Kind::Ranges {
+            unsafe { yz_range_canonical(s, n, t, m, base, encoding, at, low, o, len) }
+        } else {
+            let file = file_type(list);
+            unsafe { yz_location_canonical(s, n, t, m, base, encoding, file, at, low, o, len) }
         })
     }
 }

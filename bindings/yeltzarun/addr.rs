@@ -3,7 +3,7 @@
 use super::ffi;
 use super::{
     DebugAddr, DebugAddrBase, DebugAddrIndex, DebugAddrOffset, Encoding, EndianSlice, Format,
-    Result,
+    Result, RunTimeEndian,
 };
 
 impl<'a> DebugAddr<'a> {
@@ -36,7 +36,7 @@ impl<'a> DebugAddr<'a> {
 #[derive(Debug, Clone)]
 pub struct AddrHeaderIter<'a> {
     section: &'a [u8],
-    endian: super::RunTimeEndian,
+    endian: RunTimeEndian,
     at: u64,
 }
 

@@ -1,5 +1,5 @@
-//! The calls of the library and what they pass, as in yeltzarun.h. A slice is a pointer and a length, what is written to a
-//! pointer.
+//! The calls of the library and what they pass, as in yeltzarun.h. A slice is a pointer and a
+//! length.
 
 pub type Ptr = *const u8;
 pub type Bounds = [u64; super::LIMIT];
@@ -45,7 +45,7 @@ macro_rules! structs {
     ($($(#[$doc:meta])* $name:ident { $($field:ident: $type:ty,)* })*) => {
         $($(#[$doc])*
         #[repr(C)]
-        #[derive(Debug, Clone, Copy, PartialEq, Eq)]
+        #[derive(Debug, Default, Clone, Copy, PartialEq, Eq)]
         pub struct $name {
             $(pub $field: $type,)*
         })*
@@ -139,7 +139,9 @@ unsafe extern "C" {
         t: Ptr, m: usize, table_base: u64, encoding: Encoding, index: u64,
     ) -> Answer<u64>;
     pub fn yz_table_next(t: Ptr, m: usize, big_endian: bool, at: &mut u64) -> Answer<TableHeader>;
-    pub fn yz_table_entry_next(t: Ptr, m: usize, encoding: Encoding, entries: &mut Part) -> Answer<u64>;
+    pub fn yz_table_entry_next(
+        t: Ptr, m: usize, encoding: Encoding, entries: &mut Part,
+    ) -> Answer<u64>;
     pub fn yz_lists_header(s: Ptr, n: usize, big_endian: bool, at: usize) -> Answer<ListsHeader>;
     pub fn yz_range_get_offset(
         s: Ptr, n: usize, encoding: Encoding, base: u64, index: u64,
@@ -174,7 +176,8 @@ unsafe extern "C" {
         s: Ptr, n: usize, encoding: Encoding, walk: &mut Walk,
     ) -> Answer<LocationEntry>;
     pub fn yz_location_convert_raw(
-        t: Ptr, m: usize, table_base: u64, encoding: Encoding, entry: LocationEntry, walk: &mut Walk,
+        t: Ptr, m: usize, table_base: u64, encoding: Encoding, entry: LocationEntry,
+        walk: &mut Walk,
     ) -> Answer<Location>;
     pub fn yz_expression(s: Ptr, n: usize, expression: Part) -> Part;
 

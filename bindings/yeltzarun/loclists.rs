@@ -2,7 +2,7 @@
 
 use super::coverage::filled;
 use super::ffi;
-use super::walk::{Table, UNOPENED, Written};
+use super::walk::{Table, Written};
 use super::{
     CanonicalList, Coverage, DebugAddr, DebugAddrBase, DebugLoc, DebugLocLists, DebugLocListsBase,
     DebugLocListsIndex, DwarfFileType, Encoding, EndianSlice, LocationListEntry,
@@ -201,7 +201,7 @@ impl<'a> RawLocListIter<'a> {
         offset: LocationListsOffset,
         base_address: u64,
     ) -> Result<RawLocListIter<'a>> {
-        let (l, mut walk) = (list, UNOPENED);
+        let (l, mut walk) = (list, ffi::Walk::default());
         // SAFETY: pointer and length are of one slice.
         let answer = unsafe {
             ffi::yz_location_open(

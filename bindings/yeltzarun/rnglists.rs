@@ -2,7 +2,7 @@
 
 use super::coverage::filled;
 use super::ffi;
-use super::walk::{Table, UNOPENED, Written};
+use super::walk::{Table, Written};
 use super::{
     CanonicalList, Coverage, DebugAddr, DebugAddrBase, DebugRanges, DebugRngLists,
     DebugRngListsBase, DebugRngListsIndex, Encoding, EndianSlice, Range, RangeListsOffset,
@@ -176,7 +176,7 @@ impl<'a> RawRngListIter<'a> {
         offset: RangeListsOffset,
         base_address: u64,
     ) -> Result<RawRngListIter<'a>> {
-        let (l, mut walk) = (list, UNOPENED);
+        let (l, mut walk) = (list, ffi::Walk::default());
         // SAFETY: pointer and length are of one slice.
         let answer = unsafe {
             ffi::yz_range_open(l.ptr(), l.len(), l.encoding, offset.0, base_address, &mut walk)

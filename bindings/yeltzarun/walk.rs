@@ -64,6 +64,3 @@ impl Table<'_> {
         self.bytes.len()
     }
 }
-
-/// A walk that an opening fills.
-pub(super) const UNOPENED: ffi::Walk = ffi::Walk { at: 0, base_address: 0, split: 0 };

@@ -9,7 +9,7 @@ ghost use mathlib.Core.Path.{_≡_};
 ghost use Rattle.lists.specs.Walk.{nextRawRange};
 ghost use Rattle.ffi_words.specs.Common.{endianIn, encodingOf, left};
 ghost use Rattle.ffi_words.specs.Walks.{walkIn};
-ghost use Rattle.ffi_words.specs.Entries.{rangeIn, noRangeEntry, heardRange, rawNext, convertRange};
+ghost use Rattle.ffi_words.specs.Entries.{RawRangeTold, convertRange};
 ghost use Rattle.ffi_words.specs.Ranges.{rangeOutcome};
 
 // The entry can be handed back in as it is.
@@ -19,7 +19,7 @@ pub extern "C" fn yz_range_next_raw(
     encoding: YzEncoding,
     walk: &mut WalkWords,
 ) -> YzRawRange
-    ensures { λ r. ⌜ heardRange r (now (walk .exit)) ≡ rawNext (rangeIn noRangeEntry) (now (walk .entry)) (nextRawRange (encodingOf encoding) (endianIn encoding) (now (section .entry)) (walkIn (now (walk .entry)))) ⌝ }
+    ensures { λ r. ⌜ RawRangeTold (now (walk .entry)) (nextRawRange (encodingOf encoding) (endianIn encoding) (now (section .entry)) (walkIn (now (walk .entry)))) r (now (walk .exit)) ⌝ }
 {
     let start = ffi_words::walks::walk_in(walk);
     let unit = ffi_words::common::encoding_of(encoding);

@@ -1,30 +1,19 @@
--- Words of a call over coverages, from those of its parts. Assumes nothing.
+-- Answers over coverages, from those of the calls below. Assumes nothing.
 use mathlib.Core.List.{List}
-use mathlib.Core.Path.{_≡_, ap, ap₂, _∙_}
+use mathlib.Core.Path.{_≡_, ap, _∙_}
 use Prim.Native.Nat.{ℕ}
 use Rattle.bytes.specs.Read.{Result}
-use Rattle.bytes.specs.declared.common.DebugAddrBase.{DebugAddrBase}
-use Rattle.bytes.specs.declared.common.Encoding.{Encoding}
-use Rattle.bytes.specs.declared.endianity.RunTimeEndian.{RunTimeEndian}
-use Rattle.coverage.specs.Covered.{Holds, source}
 use Rattle.coverage.specs.Output.{Output, output}
 use Rattle.coverage.specs.Told.{Answer}
-use Rattle.ffi_words.specs.CoverageWords.{Handed, handed, handsOut, filled, fills, wroteWords}
+use Rattle.ffi_words.specs.Common.{left}
+use Rattle.ffi_words.specs.Coverages.{Handed, handsOut, countWritten, outputLeft}
+use Rattle.ffi_words.specs.declared.coverages.YzCount.{YzCount}
 
--- the same list from equal encodings and byte orders
-pub same-source : (h : Holds) (s : List ℕ) (offset base : ℕ) (table : List ℕ) (tableBase : DebugAddrBase) {p q : Encoding} {e f : RunTimeEndian}
-    → p ≡ q → e ≡ f → source h p e s offset base table tableBase ≡ source h q f s offset base table tableBase
-same-source h s offset base table tableBase x y =
-    ap₂ (λ (p : Encoding) (e : RunTimeEndian). source h p e s offset base table tableBase) x y
+-- a coverage handed out
+pub handed-out : (bs es : List ℕ) {h : Handed} {a b : Answer} → h ≡ handsOut a bs es → a ≡ b → h ≡ handsOut b bs es
+handed-out bs es h t = h ∙ ap (λ (a : Answer). handsOut a bs es) t
 
--- words written, after a coverage was handed out
-pub handed-words : {ws vs : List ℕ} (bs es : List ℕ) {h : Handed} → ws ≡ vs → handed vs bs es ≡ h → handed ws bs es ≡ h
-handed-words bs es e h = ap (λ (l : List ℕ). handed l bs es) e ∙ h
-
-pub handed-out : {ws vs bs es : List ℕ} (bs₀ es₀ : List ℕ) {a b : Answer} → ws ≡ vs → handed vs bs es ≡ handsOut a bs₀ es₀ → a ≡ b
-    → handed ws bs es ≡ handsOut b bs₀ es₀
-handed-out {bs = bs} {es = es} bs₀ es₀ e h t = handed-words bs es e h ∙ ap (λ (a : Answer). handsOut a bs₀ es₀) t
-
--- words written, after an output was
-pub filled-words : {ws vs : List ℕ} (r : Result ℕ) {out : List ℕ} {o : Output} → ws ≡ vs → vs ≡ wroteWords r → output r out ≡ o → filled ws out ≡ fills o
-filled-words r {out = out} e w h = ap (λ (l : List ℕ). filled l out) (e ∙ w) ∙ ap fills h
+-- an output written
+pub output-left : (r : Result ℕ) {out : List ℕ} {a : YzCount} {o : Output}
+    → a ≡ countWritten r → output r out ≡ o → left a out ≡ outputLeft o
+output-left r {out = out} e h = ap (λ (a : YzCount). left a out) e ∙ ap outputLeft h

@@ -1,2 +1,4 @@
 pub mod WordLaws
+pub mod EntryLaws
 pub mod CoverageLaws
+pub mod SectionLaws

@@ -1,4 +1,10 @@
-pub mod Words
-pub mod ListWords
-pub mod TableWords
-pub mod CoverageWords
+pub mod Common
+pub mod Walks
+pub mod Reads
+pub mod Headers
+pub mod Sections
+pub mod Entries
+pub mod Items
+pub mod Ranges
+pub mod Locations
+pub mod Coverages

@@ -7,7 +7,8 @@ use coverage::Verdict;
 use coverage::Wrote;
 ghost use mathlib.Core.Path.{_≡_};
 ghost use Rattle.coverage.specs.Told.{toldMade, toldWrote};
-ghost use Rattle.ffi_words.specs.Coverages.{countTold, noCount, handed, handsOut, countWritten};
+ghost use Rattle.ffi_words.specs.Common.{done};
+ghost use Rattle.ffi_words.specs.Coverages.{count as countOf, noCount, handed, handsOut, countWritten};
 
 // How many ranges a coverage has, or how many bytes were written.
 #[repr(C)]
@@ -20,7 +21,7 @@ pub struct YzCount {
 pub type Places = [u64; LIMIT];
 
 fn count_told(n: usize) -> YzCount
-    ensures { λ r. ⌜ r ≡ countTold n ⌝ }
+    ensures { λ r. ⌜ r ≡ countOf done n ⌝ }
 {
     YzCount {
         done: super::common::comes_to(DONE),

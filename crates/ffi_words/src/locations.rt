@@ -21,10 +21,10 @@ use lists::loclists::RawLocationAnswer;
 use lookups::LocationFound;
 ghost use mathlib.Core.Path.{_≡_};
 ghost use Rattle.bytes.specs.Read.{gives};
-ghost use Rattle.lists.specs.Walk.{toldNextLocation, toldRawLocation, toldConvertedLocation};
+ghost use Rattle.lists.specs.Walk.{item, toldNextLocation, toldRawLocation, toldConvertedLocation};
 ghost use Rattle.lookups.specs.Lookup.{toldLocation};
 ghost use Rattle.ffi_words.specs.Common.{left, noPart};
-ghost use Rattle.ffi_words.specs.Entries.{whole, expressionIn, expressionTold, toldLocationTaken, locationTaken, locationIn, heardLocation, noLocationEntry, rawNext, convertLocation};
+ghost use Rattle.ffi_words.specs.Entries.{whole, expressionIn, expressionTold, toldLocationTaken, entryOnly, locationIn, RawLocationTold, convertLocation};
 ghost use Rattle.ffi_words.specs.Locations.{locationTold, noLocation, locationNext, locationOutcome, locationFound};
 
 #[repr(C)]
@@ -60,7 +60,7 @@ fn expression_told(x: Expression) -> YzPart
 }
 
 fn location_told(location: LocationListEntry) -> YzLocation
-    ensures { λ r. ⌜ r ≡ locationTold (location .range .begin) (location .range .end) (location .«data») ⌝ }
+    ensures { λ r. ⌜ r ≡ locationTold (item (location .range .begin) (location .range .end) (location .«data»)) ⌝ }
 {
     let range = location.range;
     let data = location.data;
@@ -151,7 +151,7 @@ fn entry_out(raw: RawLocListEntry) -> YzLocationEntry
 }
 
 pub fn raw_location(r: RawLocationAnswer, words: &mut WalkWords) -> YzRawLocation
-    ensures { λ a. ⌜ heardLocation a (now (words .exit)) ≡ rawNext (locationIn noLocationEntry) (now (words .entry)) (toldRawLocation r) ⌝ }
+    ensures { λ a. ⌜ RawLocationTold (now (words .entry)) (toldRawLocation r) a (now (words .exit)) ⌝ }
 {
     match r {
         RawLocationAnswer::Entry(raw, walk) => {
@@ -194,13 +194,14 @@ fn expression_in(part: YzPart) -> Expression
 }
 
 pub fn entry_in(entry: YzLocationEntry) -> LocationTaken
-    ensures { λ r. ⌜ toldLocationTaken r ≡ locationTaken entry ⌝ }
+    ensures { λ r. ⌜ toldLocationTaken r ≡ entryOnly (locationIn entry) ⌝ }
 {
+    let code = entry.kind;
     let first = entry.first;
     let second = entry.second;
     let part = entry.expression;
     let x = expression_in(part);
-    match entry.kind {
+    match code {
         0 => LocationTaken::Entry(RawLocListEntry::AddressOrOffsetPair(first, second, x)),
         1 => LocationTaken::Entry(RawLocListEntry::BaseAddressx(DebugAddrIndex(first))),
         2 => LocationTaken::Entry(RawLocListEntry::StartxEndx(
@@ -214,7 +215,7 @@ pub fn entry_in(entry: YzLocationEntry) -> LocationTaken
         6 => LocationTaken::Entry(RawLocListEntry::BaseAddress(first)),
         7 => LocationTaken::Entry(RawLocListEntry::StartEnd(first, second, x)),
         8 => LocationTaken::Entry(RawLocListEntry::StartLength(first, second, x)),
-        _ => LocationTaken::Refused(Error::UnknownLocListsEntry(entry.kind)),
+        _ => LocationTaken::Refused(Error::UnknownLocListsEntry(code)),
     }
 }
 

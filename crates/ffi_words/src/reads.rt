@@ -8,7 +8,8 @@ use bytes::Place;
 use bytes::Split;
 ghost use mathlib.Core.Path.{_≡_};
 ghost use Rattle.bytes.specs.Error.{told, toldPlace, toldSplit, toldLength};
-ghost use Rattle.ffi_words.specs.Reads.{numberTold, noNumber, numberRead, numberOnly, placeRead, partRead, lengthRead};
+ghost use Rattle.ffi_words.specs.Common.{done};
+ghost use Rattle.ffi_words.specs.Reads.{number as numberTold, noNumber, numberRead, numberOnly, placeRead, partRead, lengthRead};
 
 // A number.
 #[repr(C)]
@@ -50,7 +51,7 @@ pub struct YzUnitLength {
 }
 
 pub fn number(number: u64) -> YzNumber
-    ensures { λ r. ⌜ r ≡ numberTold number ⌝ }
+    ensures { λ r. ⌜ r ≡ numberTold done number ⌝ }
 {
     YzNumber {
         done: super::common::comes_to(DONE),

@@ -6,7 +6,7 @@ use lists::Walk;
 ghost use mathlib.Core.Path.{_≡_};
 ghost use Rattle.lists.specs.Open.{toldOpened};
 ghost use Rattle.ffi_words.specs.Common.{left};
-ghost use Rattle.ffi_words.specs.Walks.{walkIn, splitIn, handedBack, splitTold, openedWords};
+ghost use Rattle.ffi_words.specs.Walks.{walkIn, splitIn, handedBack, openedWords};
 
 pub type WalkWords = [u64; 3];
 
@@ -39,18 +39,9 @@ pub fn opened(r: Opened, split: bool, words: &mut WalkWords) -> YzDone
 {
     match r {
         Opened::List(walk) => {
-            *words = [walk.at as u64, walk.base_address, split_told(split)];
+            *words = [walk.at as u64, walk.base_address, split as u64];
             super::common::comes_to(super::common::DONE)
         }
         Opened::Refused(e) => super::common::refused(e),
     }
-}
-
-fn split_told(split: bool) -> u64
-    ensures { λ r. ⌜ r ≡ splitTold split ⌝ }
-{
-    if split {
-        return 1;
-    }
-    0
 }

@@ -1,8 +1,4 @@
-use mathlib.Core.Path.{ap, _∙_}
-use Rattle.coverage.specs.Covered.{Source, locationList}
-use Rattle.canonical.specs.Canonical.{canonicalOf}
-use Rattle.coverage.specs.Output.{written}
-use Rattle.ffi_words.proofs.CoverageLaws.{same-source, filled-words}
+use Rattle.ffi_words.proofs.CoverageLaws.{output-left}
 use borrow.Author.Needs.{needs}
 use Rattle.ffi_location_coverage.proofs.yz_location_canonical.Statement.{statement}
 use Rattle.ffi_location_coverage.proofs.yz_location_canonical.Tie as tie
@@ -10,36 +6,34 @@ use Rattle.ffi_location_coverage.proofs.yz_location_canonical.Tie as ti
 encoding-of-requires : tie.Need-encoding-of-requires
 encoding-of-requires c κs = search needs
 
-endian-of-requires : tie.Need-endian-of-requires
-endian-of-requires c κs = search needs
+endian-in-requires : tie.Need-endian-in-requires
+endian-in-requires c κs = search needs
+
+is-set-requires : tie.Need-is-set-requires
+is-set-requires c κs = search needs
 
 canonical-locations-requires : tie.Need-canonical-locations-requires
 canonical-locations-requires c κs = search needs
 
-wrote-words-requires : tie.Need-wrote-words-requires
-wrote-words-requires c κs = search needs
-
-write-four-requires : tie.Need-write-four-requires
-write-four-requires c κs = search needs
+count-written-requires : tie.Need-count-written-requires
+count-written-requires c κs = search needs
 
 same-length : tie.Need-same-length
 same-length c = search needs
 
 returns : tie.Need-returns
 returns c =
-    let a = c .before .before .before .before .before .before .before .before .before .before .before .before .args in
-    filled-words _ (c .write-four .ensures) (c .before .before .wrote-words .ensures)
-    (c .before .before .before .before .before .canonical-locations .ensures
-    ∙ ap (λ (x : Source). written (canonicalOf x) (a .output .now)) (same-source (locationList (a .split)) (a .section .now) (a .offset) (a .base-address) (a .debug-addr .now) (record { 0 = a .debug-addr-base }) (c .before .before .before .before .before .before .before .before .encoding-of .ensures) (c .before .before .before .before .before .before .before .endian-of .ensures)))
+    output-left _ (c .count-written .ensures)
+    (rw (c .before .before .before .before .before .is-set .ensures, c .before .before .before .before .before .before .endian-in .ensures, c .before .before .before .before .before .before .before .encoding-of .ensures) at (c .before .before .before .canonical-locations .ensures))
 
 pub yz-location-canonical-spec : {M : Type 1} → statement M
 yz-location-canonical-spec =
     tie.close
     (tie.spec
     encoding-of-requires
-    endian-of-requires
+    endian-in-requires
+    is-set-requires
     canonical-locations-requires
-    wrote-words-requires
-    write-four-requires
+    count-written-requires
     same-length
     returns)

@@ -1,7 +1,4 @@
-use mathlib.Core.Path.{ap, _∙_}
-use Rattle.coverage.specs.Covered.{Source, locationList, coverageOf}
-use Rattle.coverage.specs.Told.{made}
-use Rattle.ffi_words.proofs.CoverageLaws.{same-source, handed-out}
+use Rattle.ffi_words.proofs.CoverageLaws.{handed-out}
 use borrow.Author.Needs.{needs}
 use Rattle.ffi_location_coverage.proofs.yz_location_coverage.Statement.{statement}
 use Rattle.ffi_location_coverage.proofs.yz_location_coverage.Tie as tie
@@ -9,8 +6,11 @@ use Rattle.ffi_location_coverage.proofs.yz_location_coverage.Tie as tie
 encoding-of-requires : tie.Need-encoding-of-requires
 encoding-of-requires c κs = search needs
 
-endian-of-requires : tie.Need-endian-of-requires
-endian-of-requires c κs = search needs
+endian-in-requires : tie.Need-endian-in-requires
+endian-in-requires c κs = search needs
+
+is-set-requires : tie.Need-is-set-requires
+is-set-requires c κs = search needs
 
 location-coverage-requires : tie.Need-location-coverage-requires
 location-coverage-requires c κs = search needs
@@ -18,23 +18,19 @@ location-coverage-requires c κs = search needs
 hand-out-requires : tie.Need-hand-out-requires
 hand-out-requires c κs = search needs
 
-write-four-requires : tie.Need-write-four-requires
-write-four-requires c κs = search needs
-
 returns : tie.Need-returns
 returns c =
-    let a = c .before .before .before .before .before .before .before .before .before .before .args in
-    handed-out (a .begins .now) (a .ends .now) (c .write-four .ensures) (c .before .before .hand-out .ensures)
-    (c .before .before .before .before .before .location-coverage .ensures
-    ∙ ap (λ (x : Source). made (coverageOf x)) (same-source (locationList (a .split)) (a .section .now) (a .offset) (a .base-address) (a .debug-addr .now) (record { 0 = a .debug-addr-base }) (c .before .before .before .before .before .before .before .encoding-of .ensures) (c .before .before .before .before .before .before .endian-of .ensures)))
+    let a = c .before .before .before .before .before .before .before .before .before .args in
+    handed-out (a .begins .now) (a .ends .now) (c .hand-out .ensures)
+    (rw (c .before .before .before .before .is-set .ensures, c .before .before .before .before .before .endian-in .ensures, c .before .before .before .before .before .before .encoding-of .ensures) at (c .before .before .before .location-coverage .ensures))
 
 pub yz-location-coverage-spec : {M : Type 1} → statement M
 yz-location-coverage-spec =
     tie.close
     (tie.spec
     encoding-of-requires
-    endian-of-requires
+    endian-in-requires
+    is-set-requires
     location-coverage-requires
     hand-out-requires
-    write-four-requires
     returns)

@@ -1,68 +1,32 @@
-use mathlib.Core.Path.{ap, ap₂, _∙_}
-use Rattle.ffi_words.specs.ListWords.{locationOutcome, convertLocationWords}
-use Rattle.bytes.specs.declared.common.Encoding.{Encoding}
-use Rattle.bytes.specs.declared.endianity.RunTimeEndian.{RunTimeEndian}
 use borrow.Author.Needs.{needs}
 use Rattle.ffi_location_raw.proofs.yz_location_convert_raw.Statement.{statement}
 use Rattle.ffi_location_raw.proofs.yz_location_convert_raw.Tie as tie
 
-element-copy-out-at : tie.Need-element-copy-out-at
-element-copy-out-at c = search needs
-
-element-copy-out-base-address : tie.Need-element-copy-out-base-address
-element-copy-out-base-address c = search needs
-
-element-copy-out-code : tie.Need-element-copy-out-code
-element-copy-out-code c = search needs
-
-element-copy-out-first : tie.Need-element-copy-out-first
-element-copy-out-first c = search needs
-
-element-copy-out-second : tie.Need-element-copy-out-second
-element-copy-out-second c = search needs
-
-element-copy-out-offset : tie.Need-element-copy-out-offset
-element-copy-out-offset c = search needs
-
-element-copy-out-len : tie.Need-element-copy-out-len
-element-copy-out-len c = search needs
+walk-in-requires : tie.Need-walk-in-requires
+walk-in-requires c κs = search needs
 
 encoding-of-requires : tie.Need-encoding-of-requires
 encoding-of-requires c κs = search needs
 
-endian-of-requires : tie.Need-endian-of-requires
-endian-of-requires c κs = search needs
+endian-in-requires : tie.Need-endian-in-requires
+endian-in-requires c κs = search needs
 
 convert-requires : tie.Need-convert-requires
 convert-requires c κs = search needs
 
-converted-words-requires : tie.Need-converted-words-requires
-converted-words-requires c κs = search needs
-
-write-eight-requires : tie.Need-write-eight-requires
-write-eight-requires c κs = search needs
+location-converted-requires : tie.Need-location-converted-requires
+location-converted-requires c κs = search needs
 
 returns : tie.Need-returns
-returns c =
-    let a = c .before .before .before .before .before .before .before .before .before .before .before .before .before .before .args in
-    c .write-eight .ensures ∙ c .before .before .converted-words .ensures
-    ∙ ap locationOutcome (c .before .before .before .convert .ensures)
-    ∙ ap₂ (λ (p : Encoding) (e : RunTimeEndian). locationOutcome (convertLocationWords p e (a .debug-addr .now) (record { 0 = a .debug-addr-base }) (a .io .now))) (c .before .before .before .before .before .encoding-of .ensures) (c .before .before .before .before .endian-of .ensures)
+returns c = rw (c .location-converted .ensures, c .before .before .convert .ensures, c .before .before .before .endian-in .ensures, c .before .before .before .before .encoding-of .ensures, c .before .before .before .before .before .walk-in .ensures)
 
 pub yz-location-convert-raw-spec : {M : Type 1} → statement M
 yz-location-convert-raw-spec =
     tie.close
     (tie.spec
-    element-copy-out-at
-    element-copy-out-base-address
-    element-copy-out-code
-    element-copy-out-first
-    element-copy-out-second
-    element-copy-out-offset
-    element-copy-out-len
+    walk-in-requires
     encoding-of-requires
-    endian-of-requires
+    endian-in-requires
     convert-requires
-    converted-words-requires
-    write-eight-requires
+    location-converted-requires
     returns)

@@ -1,50 +1,36 @@
-use mathlib.Core.Path.{ap, ap₂, _∙_}
-use Rattle.ffi_words.specs.ListWords.{locationNext}
-use Rattle.ffi_words.specs.Words.{walkOf}
-use Rattle.lists.specs.Walk.{nextLocation}
-use Rattle.bytes.specs.declared.common.Encoding.{Encoding}
-use Rattle.bytes.specs.declared.endianity.RunTimeEndian.{RunTimeEndian}
 use borrow.Author.Needs.{needs}
 use Rattle.ffi_location_walk.proofs.yz_location_next.Statement.{statement}
 use Rattle.ffi_location_walk.proofs.yz_location_next.Tie as tie
 
-element-copy-out-at : tie.Need-element-copy-out-at
-element-copy-out-at c = search needs
+walk-in-requires : tie.Need-walk-in-requires
+walk-in-requires c κs = search needs
 
-element-copy-out-base-address : tie.Need-element-copy-out-base-address
-element-copy-out-base-address c = search needs
+split-in-requires : tie.Need-split-in-requires
+split-in-requires c κs = search needs
 
 encoding-of-requires : tie.Need-encoding-of-requires
 encoding-of-requires c κs = search needs
 
-endian-of-requires : tie.Need-endian-of-requires
-endian-of-requires c κs = search needs
+endian-in-requires : tie.Need-endian-in-requires
+endian-in-requires c κs = search needs
 
 next-requires : tie.Need-next-requires
 next-requires c κs = search needs
 
-location-words-requires : tie.Need-location-words-requires
-location-words-requires c κs = search needs
-
-write-eight-requires : tie.Need-write-eight-requires
-write-eight-requires c κs = search needs
+location-next-requires : tie.Need-location-next-requires
+location-next-requires c κs = search needs
 
 returns : tie.Need-returns
-returns c =
-    let a = c .before .before .before .before .before .before .before .before .before .before .args in
-    c .write-eight .ensures ∙ c .before .before .location-words .ensures
-    ∙ ap locationNext (c .before .before .before .next .ensures)
-    ∙ ap₂ (λ (p : Encoding) (e : RunTimeEndian). locationNext (nextLocation (a .split) p e (a .section .now) (a .debug-addr .now) (record { 0 = a .debug-addr-base }) (walkOf (a .io .now)))) (c .before .before .before .before .before .encoding-of .ensures) (c .before .before .before .before .endian-of .ensures)
+returns c = rw (c .location-next .ensures, c .before .before .next .ensures, c .before .before .before .endian-in .ensures, c .before .before .before .before .encoding-of .ensures, c .before .before .before .before .before .split-in .ensures, c .before .before .before .before .before .before .before .walk-in .ensures)
 
 pub yz-location-next-spec : {M : Type 1} → statement M
 yz-location-next-spec =
     tie.close
     (tie.spec
-    element-copy-out-at
-    element-copy-out-base-address
+    walk-in-requires
+    split-in-requires
     encoding-of-requires
-    endian-of-requires
+    endian-in-requires
     next-requires
-    location-words-requires
-    write-eight-requires
+    location-next-requires
     returns)

@@ -1,7 +1,3 @@
-use mathlib.Core.Path.{ap, _∙_}
-use Rattle.ffi_words.specs.ListWords.{opening}
-use Rattle.lists.specs.Open.{opened}
-use Rattle.bytes.specs.declared.common.Encoding.{Encoding}
 use borrow.Author.Needs.{needs}
 use Rattle.ffi_location_walk.proofs.yz_location_open.Statement.{statement}
 use Rattle.ffi_location_walk.proofs.yz_location_open.Tie as tie
@@ -9,28 +5,19 @@ use Rattle.ffi_location_walk.proofs.yz_location_open.Tie as tie
 encoding-of-requires : tie.Need-encoding-of-requires
 encoding-of-requires c κs = search needs
 
+is-set-requires : tie.Need-is-set-requires
+is-set-requires c κs = search needs
+
 locations-requires : tie.Need-locations-requires
 locations-requires c κs = search needs
 
-opened-words-requires : tie.Need-opened-words-requires
-opened-words-requires c κs = search needs
-
-write-four-requires : tie.Need-write-four-requires
-write-four-requires c κs = search needs
+opened-requires : tie.Need-opened-requires
+opened-requires c κs = search needs
 
 returns : tie.Need-returns
-returns c =
-    let a = c .before .before .before .before .before .before .args in
-    c .write-four .ensures ∙ c .before .before .opened-words .ensures
-    ∙ ap opening (c .before .before .before .locations .ensures)
-    ∙ ap (λ (p : Encoding). opening (opened p (a .section .now) (a .offset) (a .base-address))) (c .before .before .before .before .encoding-of .ensures)
+returns c = rw (c .opened .ensures, c .before .before .locations .ensures, c .before .before .before .is-set .ensures, c .before .before .before .before .encoding-of .ensures)
 
 pub yz-location-open-spec : {M : Type 1} → statement M
 yz-location-open-spec =
     tie.close
-    (tie.spec
-    encoding-of-requires
-    locations-requires
-    opened-words-requires
-    write-four-requires
-    returns)
+    (tie.spec encoding-of-requires is-set-requires locations-requires opened-requires returns)

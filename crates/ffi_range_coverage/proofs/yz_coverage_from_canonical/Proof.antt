@@ -9,14 +9,12 @@ from-canonical-requires c κs = search needs
 hand-out-requires : tie.Need-hand-out-requires
 hand-out-requires c κs = search needs
 
-write-four-requires : tie.Need-write-four-requires
-write-four-requires c κs = search needs
-
 returns : tie.Need-returns
 returns c =
-    let a = c .before .before .before .before .before .before .before .args in
-    handed-out (a .begins .now) (a .ends .now) (c .write-four .ensures) (c .before .before .hand-out .ensures) (c .before .before .before .before .before .from-canonical .ensures)
+    let a = c .before .before .before .before .before .args in
+    handed-out (a .begins .now) (a .ends .now) (c .hand-out .ensures)
+    (c .before .before .before .from-canonical .ensures)
 
 pub yz-coverage-from-canonical-spec : {M : Type 1} → statement M
 yz-coverage-from-canonical-spec =
-    tie.close (tie.spec from-canonical-requires hand-out-requires write-four-requires returns)
+    tie.close (tie.spec from-canonical-requires hand-out-requires returns)

@@ -1,50 +1,32 @@
-use mathlib.Core.Path.{ap, ap₂, _∙_}
-use Rattle.ffi_words.specs.ListWords.{rawRangeNext}
-use Rattle.ffi_words.specs.Words.{walkOf}
-use Rattle.lists.specs.Walk.{nextRawRange}
-use Rattle.bytes.specs.declared.common.Encoding.{Encoding}
-use Rattle.bytes.specs.declared.endianity.RunTimeEndian.{RunTimeEndian}
 use borrow.Author.Needs.{needs}
 use Rattle.ffi_range_raw.proofs.yz_range_next_raw.Statement.{statement}
 use Rattle.ffi_range_raw.proofs.yz_range_next_raw.Tie as tie
 
-element-copy-out-at : tie.Need-element-copy-out-at
-element-copy-out-at c = search needs
-
-element-copy-out-base-address : tie.Need-element-copy-out-base-address
-element-copy-out-base-address c = search needs
+walk-in-requires : tie.Need-walk-in-requires
+walk-in-requires c κs = search needs
 
 encoding-of-requires : tie.Need-encoding-of-requires
 encoding-of-requires c κs = search needs
 
-endian-of-requires : tie.Need-endian-of-requires
-endian-of-requires c κs = search needs
+endian-in-requires : tie.Need-endian-in-requires
+endian-in-requires c κs = search needs
 
 next-raw-requires : tie.Need-next-raw-requires
 next-raw-requires c κs = search needs
 
-raw-words-requires : tie.Need-raw-words-requires
-raw-words-requires c κs = search needs
-
-write-eight-requires : tie.Need-write-eight-requires
-write-eight-requires c κs = search needs
+raw-range-requires : tie.Need-raw-range-requires
+raw-range-requires c κs = search needs
 
 returns : tie.Need-returns
-returns c =
-    let a = c .before .before .before .before .before .before .before .before .before .args in
-    c .write-eight .ensures ∙ c .before .before .raw-words .ensures
-    ∙ ap rawRangeNext (c .before .before .before .next-raw .ensures)
-    ∙ ap₂ (λ (p : Encoding) (e : RunTimeEndian). rawRangeNext (nextRawRange p e (a .section .now) (walkOf (a .io .now)))) (c .before .before .before .before .before .encoding-of .ensures) (c .before .before .before .before .endian-of .ensures)
+returns c = rw (c .before .before .next-raw .ensures, c .before .before .before .endian-in .ensures, c .before .before .before .before .encoding-of .ensures, c .before .before .before .before .before .walk-in .ensures) at (c .raw-range .ensures)
 
 pub yz-range-next-raw-spec : {M : Type 1} → statement M
 yz-range-next-raw-spec =
     tie.close
     (tie.spec
-    element-copy-out-at
-    element-copy-out-base-address
+    walk-in-requires
     encoding-of-requires
-    endian-of-requires
+    endian-in-requires
     next-raw-requires
-    raw-words-requires
-    write-eight-requires
+    raw-range-requires
     returns)

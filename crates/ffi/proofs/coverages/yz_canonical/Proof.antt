@@ -1,4 +1,4 @@
-use Rattle.ffi_words.proofs.CoverageLaws.{filled-words}
+use Rattle.ffi_words.proofs.CoverageLaws.{output-left}
 use borrow.Author.Needs.{needs}
 use Rattle.ffi.proofs.coverages.yz_canonical.Statement.{statement}
 use Rattle.ffi.proofs.coverages.yz_canonical.Tie as tie
@@ -6,20 +6,17 @@ use Rattle.ffi.proofs.coverages.yz_canonical.Tie as tie
 canonical-requires : tie.Need-canonical-requires
 canonical-requires c κs = search needs
 
-wrote-words-requires : tie.Need-wrote-words-requires
-wrote-words-requires c κs = search needs
-
-write-four-requires : tie.Need-write-four-requires
-write-four-requires c κs = search needs
+count-written-requires : tie.Need-count-written-requires
+count-written-requires c κs = search needs
 
 same-length : tie.Need-same-length
 same-length c = search needs
 
 returns : tie.Need-returns
 returns c =
-    filled-words _ (c .write-four .ensures) (c .before .before .wrote-words .ensures) (c .before .before .before .before .before .canonical .ensures)
+    output-left _ (c .count-written .ensures)
+    (c .before .before .before .canonical .ensures)
 
 pub yz-canonical-spec : {M : Type 1} → statement M
 yz-canonical-spec =
-    tie.close
-    (tie.spec canonical-requires wrote-words-requires write-four-requires same-length returns)
+    tie.close (tie.spec canonical-requires count-written-requires same-length returns)

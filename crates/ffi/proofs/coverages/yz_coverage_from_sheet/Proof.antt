@@ -9,14 +9,11 @@ from-sheet-requires c κs = search needs
 hand-out-requires : tie.Need-hand-out-requires
 hand-out-requires c κs = search needs
 
-write-four-requires : tie.Need-write-four-requires
-write-four-requires c κs = search needs
-
 returns : tie.Need-returns
 returns c =
-    let a = c .before .before .before .before .before .before .before .args in
-    handed-out (a .begins .now) (a .ends .now) (c .write-four .ensures) (c .before .before .hand-out .ensures) (c .before .before .before .before .before .from-sheet .ensures)
+    let a = c .before .before .before .before .before .args in
+    handed-out (a .begins .now) (a .ends .now) (c .hand-out .ensures)
+    (c .before .before .before .from-sheet .ensures)
 
 pub yz-coverage-from-sheet-spec : {M : Type 1} → statement M
-yz-coverage-from-sheet-spec =
-    tie.close (tie.spec from-sheet-requires hand-out-requires write-four-requires returns)
+yz-coverage-from-sheet-spec = tie.close (tie.spec from-sheet-requires hand-out-requires returns)

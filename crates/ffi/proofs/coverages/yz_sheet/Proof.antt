@@ -1,4 +1,4 @@
-use Rattle.ffi_words.proofs.CoverageLaws.{filled-words}
+use Rattle.ffi_words.proofs.CoverageLaws.{output-left}
 use borrow.Author.Needs.{needs}
 use Rattle.ffi.proofs.coverages.yz_sheet.Statement.{statement}
 use Rattle.ffi.proofs.coverages.yz_sheet.Tie as tie
@@ -6,20 +6,16 @@ use Rattle.ffi.proofs.coverages.yz_sheet.Tie as tie
 sheet-requires : tie.Need-sheet-requires
 sheet-requires c κs = search needs
 
-wrote-words-requires : tie.Need-wrote-words-requires
-wrote-words-requires c κs = search needs
-
-write-four-requires : tie.Need-write-four-requires
-write-four-requires c κs = search needs
+count-written-requires : tie.Need-count-written-requires
+count-written-requires c κs = search needs
 
 same-length : tie.Need-same-length
 same-length c = search needs
 
 returns : tie.Need-returns
 returns c =
-    filled-words _ (c .write-four .ensures) (c .before .before .wrote-words .ensures) (c .before .before .before .before .before .sheet .ensures)
+    output-left _ (c .count-written .ensures)
+    (c .before .before .before .sheet .ensures)
 
 pub yz-sheet-spec : {M : Type 1} → statement M
-yz-sheet-spec =
-    tie.close
-    (tie.spec sheet-requires wrote-words-requires write-four-requires same-length returns)
+yz-sheet-spec = tie.close (tie.spec sheet-requires count-written-requires same-length returns)

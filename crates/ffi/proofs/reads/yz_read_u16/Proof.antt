@@ -1,7 +1,3 @@
-use mathlib.Core.Path.{ap, _∙_}
-use Rattle.ffi_words.specs.Words.{numberRead}
-use Rattle.bytes.specs.Reader.{uint}
-use Rattle.bytes.specs.declared.endianity.RunTimeEndian.{RunTimeEndian}
 use borrow.Author.Needs.{needs}
 use Rattle.ffi.proofs.reads.yz_read_u16.Statement.{statement}
 use Rattle.ffi.proofs.reads.yz_read_u16.Tie as tie
@@ -12,25 +8,12 @@ endian-of-requires c κs = search needs
 read-u16-requires : tie.Need-read-u16-requires
 read-u16-requires c κs = search needs
 
-number-words-requires : tie.Need-number-words-requires
-number-words-requires c κs = search needs
-
-write-four-requires : tie.Need-write-four-requires
-write-four-requires c κs = search needs
+read-number-requires : tie.Need-read-number-requires
+read-number-requires c κs = search needs
 
 returns : tie.Need-returns
-returns c =
-    let a = c .before .before .before .before .before .before .args in
-    c .write-four .ensures ∙ c .before .before .number-words .ensures
-    ∙ ap numberRead (c .before .before .before .read-u16 .ensures)
-    ∙ ap (λ (e : RunTimeEndian). numberRead (uint e 2 (a .section .now) (a .at))) (c .before .before .before .before .endian-of .ensures)
+returns c = rw (c .read-number .ensures, c .before .read-u16 .ensures, c .before .before .endian-of .ensures)
 
 pub yz-read-u16-spec : {M : Type 1} → statement M
 yz-read-u16-spec =
-    tie.close
-    (tie.spec
-    endian-of-requires
-    read-u16-requires
-    number-words-requires
-    write-four-requires
-    returns)
+    tie.close (tie.spec endian-of-requires read-u16-requires read-number-requires returns)

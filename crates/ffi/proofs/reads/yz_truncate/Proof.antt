@@ -1,5 +1,3 @@
-use mathlib.Core.Path.{ap, _∙_}
-use Rattle.ffi_words.specs.Words.{numberRead}
 use borrow.Author.Needs.{needs}
 use Rattle.ffi.proofs.reads.yz_truncate.Statement.{statement}
 use Rattle.ffi.proofs.reads.yz_truncate.Tie as tie
@@ -7,18 +5,11 @@ use Rattle.ffi.proofs.reads.yz_truncate.Tie as tie
 truncate-requires : tie.Need-truncate-requires
 truncate-requires c κs = search needs
 
-number-words-requires : tie.Need-number-words-requires
-number-words-requires c κs = search needs
-
-write-four-requires : tie.Need-write-four-requires
-write-four-requires c κs = search needs
+number-only-requires : tie.Need-number-only-requires
+number-only-requires c κs = search needs
 
 returns : tie.Need-returns
-returns c =
-    let a = c .before .before .before .before .before .args in
-    c .write-four .ensures ∙ c .before .before .number-words .ensures
-    ∙ ap numberRead (c .before .before .before .truncate .ensures)
+returns c = rw (c .number-only .ensures, c .before .truncate .ensures)
 
 pub yz-truncate-spec : {M : Type 1} → statement M
-yz-truncate-spec =
-    tie.close (tie.spec truncate-requires number-words-requires write-four-requires returns)
+yz-truncate-spec = tie.close (tie.spec truncate-requires number-only-requires returns)

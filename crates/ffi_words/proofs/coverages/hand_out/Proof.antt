@@ -1,5 +1,3 @@
-use mathlib.Core.Path.{refl}
-use Rattle.ffi_words.proofs.CoverageLaws.{handed-words}
 use borrow.Author.Needs.{needs}
 use Rattle.ffi_words.proofs.coverages.hand_out.Statement.{statement}
 use Rattle.ffi_words.proofs.coverages.hand_out.Tie as tie
@@ -7,18 +5,32 @@ use Rattle.ffi_words.proofs.coverages.hand_out.Tie as tie
 enum-known-verdict : tie.Need-enum-known-verdict
 enum-known-verdict c = search needs
 
-refused-four-requires : tie.Need-refused-four-requires
-refused-four-requires c κs = search needs
+refused-requires : tie.Need-refused-requires
+refused-requires c κs = search needs
+
+no-count-requires : tie.Need-no-count-requires
+no-count-requires c κs = search needs
 
 enum-told : tie.Need-enum-told
 enum-told c = search needs
 
+count-told-requires : tie.Need-count-told-requires
+count-told-requires c κs = search needs
+
 returns : tie.Need-returns
-returns c = rw (c .before .before .verdict .given .1) (handed-words _ _ (c .refused-four .ensures) refl)
+returns c = rw (c .before .before .before .verdict .given .1, c .no-count .ensures, c .before .refused .ensures)
 
 returns-2 : tie.Need-returns-2
-returns-2 c = rw (c .before .before .before .enum-told .given .1) refl
+returns-2 c = rw (c .before .before .before .before .enum-told .given .1, c .count-told .ensures)
 
 pub hand-out-spec : {M : Type 1} → statement M
 hand-out-spec =
-    tie.close (tie.spec enum-known-verdict refused-four-requires enum-told returns returns-2)
+    tie.close
+    (tie.spec
+    enum-known-verdict
+    refused-requires
+    no-count-requires
+    enum-told
+    count-told-requires
+    returns
+    returns-2)

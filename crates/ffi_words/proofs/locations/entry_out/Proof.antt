@@ -1,0 +1,127 @@
+use Rattle.entries.specs.Kinds.{kindOf, locationKinds}
+use Rattle.ffi_words.specs.Entries.{locationIn}
+use borrow.Author.Needs.{needs}
+use Rattle.ffi_words.proofs.locations.entry_out.Statement.{statement}
+use Rattle.ffi_words.proofs.locations.entry_out.Tie as tie
+
+enum-known-raw : tie.Need-enum-known-raw
+enum-known-raw c = search needs
+
+numbers-with-requires : tie.Need-numbers-with-requires
+numbers-with-requires c κs = search needs
+
+enum-known-raw-2 : tie.Need-enum-known-raw-2
+enum-known-raw-2 c = search needs
+
+numbers-requires : tie.Need-numbers-requires
+numbers-requires c κs = search needs
+
+enum-known-raw-3 : tie.Need-enum-known-raw-3
+enum-known-raw-3 c = search needs
+
+numbers-with-requires-2 : tie.Need-numbers-with-requires-2
+numbers-with-requires-2 c κs = search needs
+
+enum-known-raw-4 : tie.Need-enum-known-raw-4
+enum-known-raw-4 c = search needs
+
+numbers-with-requires-3 : tie.Need-numbers-with-requires-3
+numbers-with-requires-3 c κs = search needs
+
+enum-known-raw-5 : tie.Need-enum-known-raw-5
+enum-known-raw-5 c = search needs
+
+numbers-with-requires-4 : tie.Need-numbers-with-requires-4
+numbers-with-requires-4 c κs = search needs
+
+enum-known-raw-6 : tie.Need-enum-known-raw-6
+enum-known-raw-6 c = search needs
+
+numbers-with-requires-5 : tie.Need-numbers-with-requires-5
+numbers-with-requires-5 c κs = search needs
+
+enum-known-raw-7 : tie.Need-enum-known-raw-7
+enum-known-raw-7 c = search needs
+
+numbers-requires-2 : tie.Need-numbers-requires-2
+numbers-requires-2 c κs = search needs
+
+enum-known-raw-8 : tie.Need-enum-known-raw-8
+enum-known-raw-8 c = search needs
+
+numbers-with-requires-6 : tie.Need-numbers-with-requires-6
+numbers-with-requires-6 c κs = search needs
+
+enum-known-raw-9 : tie.Need-enum-known-raw-9
+enum-known-raw-9 c = search needs
+
+numbers-with-requires-7 : tie.Need-numbers-with-requires-7
+numbers-with-requires-7 c κs = search needs
+
+returns : tie.Need-returns
+unfolding locationIn kindOf locationKinds
+returns c = rw (c .before .before .raw .given .1, c .numbers-with .ensures)
+
+returns-2 : tie.Need-returns-2
+unfolding locationIn kindOf locationKinds
+returns-2 c = rw (c .before .before .raw2 .given .1, c .numbers .ensures)
+
+returns-3 : tie.Need-returns-3
+unfolding locationIn kindOf locationKinds
+returns-3 c = rw (c .before .before .raw3 .given .1, c .numbers-with2 .ensures)
+
+returns-4 : tie.Need-returns-4
+unfolding locationIn kindOf locationKinds
+returns-4 c = rw (c .before .before .raw4 .given .1, c .numbers-with3 .ensures)
+
+returns-5 : tie.Need-returns-5
+unfolding locationIn kindOf locationKinds
+returns-5 c = rw (c .before .before .raw5 .given .1, c .numbers-with4 .ensures)
+
+returns-6 : tie.Need-returns-6
+unfolding locationIn kindOf locationKinds
+returns-6 c = rw (c .before .before .raw6 .given .1, c .numbers-with5 .ensures)
+
+returns-7 : tie.Need-returns-7
+unfolding locationIn kindOf locationKinds
+returns-7 c = rw (c .before .before .raw7 .given .1, c .numbers2 .ensures)
+
+returns-8 : tie.Need-returns-8
+unfolding locationIn kindOf locationKinds
+returns-8 c = rw (c .before .before .raw8 .given .1, c .numbers-with6 .ensures)
+
+returns-9 : tie.Need-returns-9
+unfolding locationIn kindOf locationKinds
+returns-9 c = rw (c .before .before .raw9 .given .1, c .numbers-with7 .ensures)
+
+pub entry-out-spec : {M : Type 1} → statement M
+entry-out-spec =
+    tie.close
+    (tie.spec
+    enum-known-raw
+    numbers-with-requires
+    enum-known-raw-2
+    numbers-requires
+    enum-known-raw-3
+    numbers-with-requires-2
+    enum-known-raw-4
+    numbers-with-requires-3
+    enum-known-raw-5
+    numbers-with-requires-4
+    enum-known-raw-6
+    numbers-with-requires-5
+    enum-known-raw-7
+    numbers-requires-2
+    enum-known-raw-8
+    numbers-with-requires-6
+    enum-known-raw-9
+    numbers-with-requires-7
+    returns
+    returns-2
+    returns-3
+    returns-4
+    returns-5
+    returns-6
+    returns-7
+    returns-8
+    returns-9)

@@ -1,0 +1,64 @@
+use borrow.Author.Needs.{needs}
+use Rattle.ffi_words.proofs.locations.location_converted.Statement.{statement}
+use Rattle.ffi_words.proofs.locations.location_converted.Tie as tie
+
+enum-known-r : tie.Need-enum-known-r
+enum-known-r c = search needs
+
+hand-back-requires : tie.Need-hand-back-requires
+hand-back-requires c κs = search needs
+
+location-told-requires : tie.Need-location-told-requires
+location-told-requires c κs = search needs
+
+enum-known-r-2 : tie.Need-enum-known-r-2
+enum-known-r-2 c = search needs
+
+hand-back-requires-2 : tie.Need-hand-back-requires-2
+hand-back-requires-2 c κs = search needs
+
+comes-to-requires : tie.Need-comes-to-requires
+comes-to-requires c κs = search needs
+
+no-location-requires : tie.Need-no-location-requires
+no-location-requires c κs = search needs
+
+enum-known-r-3 : tie.Need-enum-known-r-3
+enum-known-r-3 c = search needs
+
+hand-back-requires-3 : tie.Need-hand-back-requires-3
+hand-back-requires-3 c κs = search needs
+
+refused-requires : tie.Need-refused-requires
+refused-requires c κs = search needs
+
+no-location-requires-2 : tie.Need-no-location-requires-2
+no-location-requires-2 c κs = search needs
+
+returns : tie.Need-returns
+returns c = rw (c .before .before .before .before .r .given .1, c .location-told .ensures, c .before .hand-back .ensures)
+
+returns-2 : tie.Need-returns-2
+returns-2 c = rw (c .before .before .before .before .before .r2 .given .1, c .no-location .ensures, c .before .comes-to .ensures, c .before .before .hand-back2 .ensures)
+
+returns-3 : tie.Need-returns-3
+returns-3 c = rw (c .before .before .before .before .before .r3 .given .1, c .no-location2 .ensures, c .before .refused .ensures, c .before .before .hand-back3 .ensures)
+
+pub location-converted-spec : {M : Type 1} → statement M
+location-converted-spec =
+    tie.close
+    (tie.spec
+    enum-known-r
+    hand-back-requires
+    location-told-requires
+    enum-known-r-2
+    hand-back-requires-2
+    comes-to-requires
+    no-location-requires
+    enum-known-r-3
+    hand-back-requires-3
+    refused-requires
+    no-location-requires-2
+    returns
+    returns-2
+    returns-3)

@@ -1,0 +1,114 @@
+use Rattle.entries.specs.Kinds.{kindOf, rangeKinds}
+use Rattle.ffi_words.specs.Entries.{rangeIn}
+use borrow.Author.Needs.{needs}
+use Rattle.ffi_words.proofs.ranges.entry_out.Statement.{statement}
+use Rattle.ffi_words.proofs.ranges.entry_out.Tie as tie
+
+enum-known-raw : tie.Need-enum-known-raw
+enum-known-raw c = search needs
+
+numbers-requires : tie.Need-numbers-requires
+numbers-requires c κs = search needs
+
+enum-known-raw-2 : tie.Need-enum-known-raw-2
+enum-known-raw-2 c = search needs
+
+numbers-requires-2 : tie.Need-numbers-requires-2
+numbers-requires-2 c κs = search needs
+
+enum-known-raw-3 : tie.Need-enum-known-raw-3
+enum-known-raw-3 c = search needs
+
+numbers-requires-3 : tie.Need-numbers-requires-3
+numbers-requires-3 c κs = search needs
+
+enum-known-raw-4 : tie.Need-enum-known-raw-4
+enum-known-raw-4 c = search needs
+
+numbers-requires-4 : tie.Need-numbers-requires-4
+numbers-requires-4 c κs = search needs
+
+enum-known-raw-5 : tie.Need-enum-known-raw-5
+enum-known-raw-5 c = search needs
+
+numbers-requires-5 : tie.Need-numbers-requires-5
+numbers-requires-5 c κs = search needs
+
+enum-known-raw-6 : tie.Need-enum-known-raw-6
+enum-known-raw-6 c = search needs
+
+numbers-requires-6 : tie.Need-numbers-requires-6
+numbers-requires-6 c κs = search needs
+
+enum-known-raw-7 : tie.Need-enum-known-raw-7
+enum-known-raw-7 c = search needs
+
+numbers-requires-7 : tie.Need-numbers-requires-7
+numbers-requires-7 c κs = search needs
+
+enum-known-raw-8 : tie.Need-enum-known-raw-8
+enum-known-raw-8 c = search needs
+
+numbers-requires-8 : tie.Need-numbers-requires-8
+numbers-requires-8 c κs = search needs
+
+returns : tie.Need-returns
+unfolding rangeIn kindOf rangeKinds
+returns c = rw (c .before .before .raw .given .1, c .numbers .ensures)
+
+returns-2 : tie.Need-returns-2
+unfolding rangeIn kindOf rangeKinds
+returns-2 c = rw (c .before .before .raw2 .given .1, c .numbers2 .ensures)
+
+returns-3 : tie.Need-returns-3
+unfolding rangeIn kindOf rangeKinds
+returns-3 c = rw (c .before .before .raw3 .given .1, c .numbers3 .ensures)
+
+returns-4 : tie.Need-returns-4
+unfolding rangeIn kindOf rangeKinds
+returns-4 c = rw (c .before .before .raw4 .given .1, c .numbers4 .ensures)
+
+returns-5 : tie.Need-returns-5
+unfolding rangeIn kindOf rangeKinds
+returns-5 c = rw (c .before .before .raw5 .given .1, c .numbers5 .ensures)
+
+returns-6 : tie.Need-returns-6
+unfolding rangeIn kindOf rangeKinds
+returns-6 c = rw (c .before .before .raw6 .given .1, c .numbers6 .ensures)
+
+returns-7 : tie.Need-returns-7
+unfolding rangeIn kindOf rangeKinds
+returns-7 c = rw (c .before .before .raw7 .given .1, c .numbers7 .ensures)
+
+returns-8 : tie.Need-returns-8
+unfolding rangeIn kindOf rangeKinds
+returns-8 c = rw (c .before .before .raw8 .given .1, c .numbers8 .ensures)
+
+pub entry-out-spec : {M : Type 1} → statement M
+entry-out-spec =
+    tie.close
+    (tie.spec
+    enum-known-raw
+    numbers-requires
+    enum-known-raw-2
+    numbers-requires-2
+    enum-known-raw-3
+    numbers-requires-3
+    enum-known-raw-4
+    numbers-requires-4
+    enum-known-raw-5
+    numbers-requires-5
+    enum-known-raw-6
+    numbers-requires-6
+    enum-known-raw-7
+    numbers-requires-7
+    enum-known-raw-8
+    numbers-requires-8
+    returns
+    returns-2
+    returns-3
+    returns-4
+    returns-5
+    returns-6
+    returns-7
+    returns-8)

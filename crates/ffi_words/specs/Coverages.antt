@@ -1,0 +1,45 @@
+-- Coverages in two lent arrays, and calls that write into lent bytes.
+use Prim.Native.Nat.{ℕ}
+use mathlib.Core.List.{List}
+use Rattle.bytes.specs.Read.{Result, gives, refuses}
+use Rattle.coverage.specs.Output.{Output}
+use Rattle.coverage.specs.Told.{Answer}
+use Rattle.coverage.specs.declared.Coverage.{Coverage}
+use Rattle.ffi_words.specs.Common.{done, refusedBy, Left, left}
+use Rattle.ffi_words.specs.declared.common.YzDone.{YzDone}
+use Rattle.ffi_words.specs.declared.coverages.YzCount.{YzCount}
+
+abbrev pub count : YzDone → ℕ → YzCount
+count d n = record { done = d; count = n }
+
+abbrev pub noCount : YzDone → YzCount
+noCount d = count d 0
+
+-- an answer, and what the call leaves in the two arrays that a caller lends for begins and ends
+pub record Handed : Type 0 where
+  pub answer : YzCount
+  pub begins : List ℕ
+  pub ends : List ℕ
+
+abbrev pub handed : YzCount → List ℕ → List ℕ → Handed
+handed a bs es = record { answer = a; begins = bs; ends = es }
+
+-- how many ranges, and both arrays whole; a refusal leaves them as they were
+abbrev pub byVerdict : Result Unit → Coverage → List ℕ → List ℕ → Handed
+byVerdict (gives v) c bs es = handed (count done (c .n)) (c .begins) (c .ends)
+byVerdict (refuses n vs) c bs es = handed (noCount (refusedBy n vs)) bs es
+
+abbrev pub handsOut : Answer → List ℕ → List ℕ → Handed
+handsOut a bs es = byVerdict (a .verdict) (a .coverage) bs es
+
+-- the coverage that a caller hands in
+abbrev pub coverageIn : ℕ → List ℕ → List ℕ → Coverage
+coverageIn n bs es = record { n = n; begins = bs; ends = es }
+
+-- how many bytes were written, and the output then
+abbrev pub countWritten : Result ℕ → YzCount
+countWritten (gives n) = count done n
+countWritten (refuses n vs) = noCount (refusedBy n vs)
+
+abbrev pub outputLeft : Output → Left YzCount
+outputLeft o = left (countWritten (o .answer)) (o .out)
