@@ -2,7 +2,7 @@
 
 use crate::lists::{Location, Place};
 use crate::program::{Member, Program};
-use crate::unit::{Node, Unit};
+use crate::unit::{Node, SUPPLEMENTARY, Unit};
 use crate::wrong::{Outcome, Wrong};
 use crate::{Reader, Value};
 use gimli::{DwAt, UnitOffset};
@@ -152,8 +152,14 @@ fn first_of(chain: &[(Entry, Vec<(DwAt, Value)>)], name: DwAt) -> Option<(&Entry
 }
 
 fn name_of(chain: &[(Entry, Vec<(DwAt, Value)>)], name: DwAt) -> Option<String> {
-    let (entry, value) = first_of(chain, name)?;
-    entry.unit().text(&value)
+    if let Some((entry, value)) = first_of(chain, name) {
+        return entry.unit().text(&value);
+    }
+    let (_, attributes) = chain.last()?;
+    let origin = value_of(attributes, gimli::DW_AT_abstract_origin)
+        .or_else(|| value_of(attributes, gimli::DW_AT_specification));
+    let elsewhere = matches!(origin, Some(Value::DebugInfoRefSup(_)));
+    (elsewhere && name == gimli::DW_AT_name).then(|| SUPPLEMENTARY.into())
 }
 
 fn number(value: &Value) -> Option<u64> {
@@ -226,12 +232,9 @@ fn in_unit(program: &Program, unit: &Rc<Unit>, address: u64, answer: &mut Answer
     if unit.is_of_types() {
         return Ok(());
     }
-    let nodes = unit.nodes()?;
-    let Some(root) = nodes.first() else { return Ok(()) };
-    let attributes = unit.attributes(root.offset)?;
-    let unit_held = held(unit, &attributes, address)?;
+    let unit_held = held(unit, unit.root(), address)?;
     // A unit with addresses has those of its routines among them.
-    if unit_held.is_none() && has_addresses(&attributes) {
+    if unit_held.is_none() && has_addresses(unit.root()) {
         return Ok(());
     }
     // Without addresses it may have routines all the same, unless it is a skeleton, which has none.

@@ -81,6 +81,9 @@ impl Sections {
     }
 }
 
+/// What stands for a name that is in a supplementary file.
+pub const SUPPLEMENTARY: &str = "(named in the supplementary file, which is not read)";
+
 /// An entry in the order of the unit.
 #[derive(Debug, Clone, Copy)]
 pub struct Node {
@@ -229,6 +232,11 @@ impl Unit {
         Ok(unit)
     }
 
+    /// The attributes of the root entry.
+    pub fn root(&self) -> &[(DwAt, Value)] {
+        &self.root
+    }
+
     /// An attribute of the root entry.
     pub fn root_value(&self, name: DwAt) -> Option<Value> {
         self.root.iter().find(|(attribute, _)| *attribute == name).map(|(_, value)| *value)
@@ -288,6 +296,7 @@ impl Unit {
                 let offset = offsets.get_str_offset(self.header.format(), base, *index).ok()?;
                 debug_str.get_str(offset).ok()?
             }
+            Value::DebugStrRefSup(_) => return Some(SUPPLEMENTARY.into()),
             _ => return None,
         };
         // What would move the cursor or end the line is not printed as it is.

@@ -10,7 +10,7 @@ const USAGE: &str = "\
 at FILE ADDRESS [--split SPLIT]..
 
 Prints the routine of the ELF file FILE that holds ADDRESS, the routines inlined there, innermost first, and
-for each parameter and variable in scope where it lives at the address, or that it is nowhere.
+for each of their parameters and variables in scope where it lives at the address, or that it is nowhere.
 
 ADDRESS   of the file: decimal, or hexadecimal after 0x. Where a program was loaded elsewhere, take that off
 SPLIT     a .dwo or .dwp file of FILE. Without one the .dwo files are those that FILE's attributes name
