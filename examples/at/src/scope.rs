@@ -99,6 +99,11 @@ impl Answer {
     }
 }
 
+/// An entry and those that it is a copy or the completion of, with their attributes.
+type Chain = Vec<(Entry, Vec<(DwAt, Value)>)>;
+/// A part of it.
+type Link = [(Entry, Vec<(DwAt, Value)>)];
+
 /// The number of references that are followed from an entry to the one with its name.
 const REFERENCES: usize = 16;
 
@@ -126,7 +131,7 @@ impl Entry {
     }
 
     /// The entry, then those that it is a copy or the completion of.
-    fn origins(&self) -> Outcome<Vec<(Entry, Vec<(DwAt, Value)>)>> {
+    fn origins(&self) -> Outcome<Chain> {
         let mut chain = Vec::new();
         let mut next = Some(self.clone());
         while let Some(entry) = next.take().filter(|_| chain.len() < REFERENCES) {
@@ -147,11 +152,11 @@ fn value_of(attributes: &[(DwAt, Value)], name: DwAt) -> Option<Value> {
 }
 
 /// The first of an entry and its origins that has an attribute.
-fn first_of(chain: &[(Entry, Vec<(DwAt, Value)>)], name: DwAt) -> Option<(&Entry, Value)> {
+fn first_of(chain: &Link, name: DwAt) -> Option<(&Entry, Value)> {
     chain.iter().find_map(|(entry, attributes)| Some((entry, value_of(attributes, name)?)))
 }
 
-fn name_of(chain: &[(Entry, Vec<(DwAt, Value)>)], name: DwAt) -> Option<String> {
+fn name_of(chain: &Link, name: DwAt) -> Option<String> {
     if let Some((entry, value)) = first_of(chain, name) {
         return entry.unit().text(&value);
     }
@@ -169,11 +174,7 @@ fn number(value: &Value) -> Option<u64> {
     }
 }
 
-fn line_of(
-    chain: &[(Entry, Vec<(DwAt, Value)>)],
-    file: DwAt,
-    line: DwAt,
-) -> Option<(Option<String>, u64)> {
+fn line_of(chain: &Link, file: DwAt, line: DwAt) -> Option<(Option<String>, u64)> {
     let (_, value) = first_of(chain, line)?;
     let line = number(&value)?;
     let name =

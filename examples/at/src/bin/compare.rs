@@ -447,11 +447,10 @@ fn twins(words: &[&str], split: &[&Path]) -> ExitCode {
             counts.add("lines");
         }
         let [ours, theirs] = lines;
-        if ours != theirs && program.main.units.iter().all(|unit| unit.context.encoding.version == 4) {
-            if short_lengths(address, &ours, &theirs) {
-                counts.add("with gcc's short lengths");
-                continue;
-            }
+        let of_version_4 = || program.main.units.iter().all(|unit| unit.context.encoding.version == 4);
+        if ours != theirs && of_version_4() && short_lengths(address, &ours, &theirs) {
+            counts.add("with gcc's short lengths");
+            continue;
         }
         if ours != theirs {
             let only = |here: &[String], there: &[String]| {
