@@ -1,14 +1,16 @@
 /* A routine whose values move between registers, and one that is inlined into it. */
 
-static inline int clamped(int value, int limit) {
+static inline int lowered(int value, int limit) {
     int over = value - limit;
-    return over > 0 ? limit : value;
+    if (over > 0)
+        value = limit + over / 3;
+    return value;
 }
 
 __attribute__((noinline)) int total(const int *values, int count) {
     int sum = 0;
     for (int i = 0; i < count; i++)
-        sum += clamped(values[i], 100);
+        sum += lowered(values[i], 100);
     return sum;
 }
 
