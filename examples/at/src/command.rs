@@ -1,7 +1,7 @@
 //! The command line.
 
 use crate::wrong::{BAD_USE, Outcome, UNREADABLE, Wrong};
-use std::io::Write;
+use std::io::{ErrorKind, Write};
 use std::path::Path;
 use std::process::ExitCode;
 
@@ -24,6 +24,8 @@ pub fn run(usage: &str, answer: impl FnOnce(&[String]) -> Outcome<(String, u8)>)
     match answer(&words) {
         Ok((text, status)) => match std::io::stdout().write_all(text.as_bytes()) {
             Ok(()) => ExitCode::from(status),
+            // The reader has seen enough.
+            Err(error) if error.kind() == ErrorKind::BrokenPipe => ExitCode::from(status),
             Err(error) => {
                 eprintln!("not printed: {error}");
                 ExitCode::from(UNREADABLE)
