@@ -1,12 +1,13 @@
 //! Holds the answers for many addresses against those of other tools.
 //!
 //!   compare FILE COUNT NAMES DUMP [--split SPLIT]..
-//!   compare twins FILE OTHER COUNT [--split SPLIT]..
+//!   compare twins FILE OTHER COUNT NAMES [--split SPLIT]..
 //!
 //! The first takes COUNT addresses of FILE's code, spread evenly. NAMES is a copy of FILE without a symbol table, which
 //! addr2line and llvm-symbolizer are asked about, so that both answer from the debug information alone; DUMP is what
 //! llvm-dwarfdump --debug-info printed of FILE, or - where locations are not held against it. The second holds the answers
-//! for a split FILE against those for OTHER, the same code with its debug information in one file.
+//! for a split FILE against those for OTHER, the same code with its debug information in one file, and against
+//! llvm-symbolizer, which follows the .dwo files.
 //!
 //! Every difference is printed; the last line has their number, and the exit status is 1 where there are any.
 
@@ -308,11 +309,7 @@ fn compare(words: &[&str], split: &[&Path]) -> ExitCode {
         for wrong in &answer.wrongs {
             counts.differ(format!("{address:#x}: {wrong}"));
         }
-        let stacks = answer
-            .stacks
-            .iter()
-            .map(|stack| stack.routines.iter().map(|one| linkage(one).to_string()).collect::<Vec<_>>());
-        let stacks = stacks.collect::<Vec<_>>();
+        let stacks = stacks(&answer);
         if stacks.len() > 1 {
             counts.add("with several routines");
         }
@@ -322,8 +319,7 @@ fn compare(words: &[&str], split: &[&Path]) -> ExitCode {
                 counts.add("where addr2line passes over an inlined routine");
                 continue;
             }
-            let same = if stacks.is_empty() { theirs.is_empty() } else { stacks.contains(theirs) };
-            if !same {
+            if !agree(&stacks, theirs) {
                 counts.differ(format!("{address:#x}: {stacks:?}, {tool} {theirs:?}"));
             }
         }
@@ -334,17 +330,32 @@ fn compare(words: &[&str], split: &[&Path]) -> ExitCode {
     counts.finish(file)
 }
 
-/// Whether addr2line passes over inlined routines, at least one of which has its ranges in a list of version 5, where
-/// llvm-symbolizer has them all. binutils 2.40 does not find such a list by its index.
-fn lacks_indexed(answer: &Answer, gnu: &[String], llvm: &[String]) -> bool {
+/// Whether a tool has all routines but inlined ones, at least one of which has its ranges in a list.
+fn passes_over(answer: &Answer, theirs: &[String]) -> bool {
     let [stack] = &answer.stacks[..] else { return false };
-    let mut left = gnu.iter().map(String::as_str).peekable();
+    let mut left = theirs.iter().map(String::as_str).peekable();
     let passed_over = stack.routines.iter().filter(|one| left.next_if_eq(&linkage(one)).is_none()).collect::<Vec<_>>();
-    stack.unit.context.encoding.version >= 5
-        && stack.routines.iter().map(linkage).eq(llvm.iter().map(String::as_str))
-        && left.next().is_none()
+    left.next().is_none()
         && passed_over.iter().all(|one| one.inlined)
         && passed_over.iter().any(|one| matches!(one.held.source, Source::List(_)))
+}
+
+/// Whether addr2line lacks an inlined routine of version 5 that llvm-symbolizer has: binutils 2.40 does not find a list by
+/// its index.
+fn lacks_indexed(answer: &Answer, gnu: &[String], llvm: &Vec<String>) -> bool {
+    let of_version_5 = answer.stacks.iter().all(|stack| stack.unit.context.encoding.version >= 5);
+    of_version_5 && agree(&stacks(answer), llvm) && passes_over(answer, gnu)
+}
+
+/// The names of the routines that hold the address, each with the inlined ones in it.
+fn stacks(answer: &Answer) -> Vec<Vec<String>> {
+    let names = |stack: &scope::Stack| stack.routines.iter().map(|one| linkage(one).to_string()).collect();
+    answer.stacks.iter().map(names).collect()
+}
+
+/// Whether a tool's routines are those of one of the stacks, or none where there is none.
+fn agree(stacks: &[Vec<String>], theirs: &Vec<String>) -> bool {
+    if stacks.is_empty() { theirs.is_empty() } else { stacks.contains(theirs) }
 }
 
 fn linkage(routine: &scope::Routine) -> &str {
@@ -430,13 +441,25 @@ fn short_lengths(address: u64, split: &[String], whole: &[String]) -> bool {
 }
 
 fn twins(words: &[&str], split: &[&Path]) -> ExitCode {
-    let [file, other, count] = words else { panic!("FILE OTHER COUNT") };
+    let [file, other, count, names] = words else { panic!("FILE OTHER COUNT NAMES") };
     let open =
         |path: &str, split: &[&Path]| Program::open(Path::new(path), split).unwrap_or_else(|wrong| panic!("{wrong}"));
     let (program, whole) = (open(file, split), open(other, &[]));
     let mut counts = Counts::default();
-    for address in addresses(file, count.parse().unwrap()) {
+    let addresses = addresses(file, count.parse().unwrap());
+    let llvm = symbolizer(names, &addresses);
+    if llvm.len() != addresses.len() {
+        counts.differ(format!("llvm-symbolizer: {} answers for {}", llvm.len(), addresses.len()));
+    }
+    for (address, llvm) in addresses.into_iter().zip(llvm) {
         let (ours, theirs) = (scope::at(&program, address), scope::at(&whole, address));
+        let stacks = stacks(&ours);
+        // llvm-symbolizer 14 adds a split unit's offset pairs to 0, and not to the skeleton's base address.
+        if passes_over(&ours, &llvm) {
+            counts.add("where llvm-symbolizer passes over an inlined routine");
+        } else if !agree(&stacks, &llvm) {
+            counts.differ(format!("{address:#x}: {stacks:?}, llvm-symbolizer {llvm:?}"));
+        }
         counts.add("addresses");
         counts.add(if ours.stacks.is_empty() { "not there" } else { "with a routine" });
         ours.wrongs.iter().for_each(|wrong| counts.differ(format!("{address:#x}: {wrong}")));
