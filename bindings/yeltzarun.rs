@@ -7,6 +7,10 @@
 //! refuses an address size that isn't read. A walk is an [`Iterator`] too, as in gimli. The calls
 //! over a [`Coverage`] take about 100 KB of stack.
 //!
+//! A package uses it by `yeltzarun = { path = ".." }`, the path of this folder. Its build script links
+//! the file that `YELTZARUN_LIBRARY` names, or the repository's `target/lib/libyeltzarun.a`, which
+//! `build-library` proves and builds where the Rattle kit is at hand, or the one that pkg-config knows.
+//!
 //! ```
 //! use yeltzarun::*;
 //!

@@ -1,9 +1,9 @@
 //! Compares the port with the oracle: every short list, then the cases of as
 //! many seeds as are asked for, then a case built for coverage, sheets and
-//! canonical lists for every twentieth of them. Any difference is printed, and
-//! the exit status is 1.
+//! canonical lists for every twentieth of them. A difference is printed, the last
+//! line has their number, and the exit status is 1 where there are any.
 //!
-//!   differ <seeds> [first seed] [all] [model]
+//!   differ [seeds [first seed]] [all] [model]
 //!
 //! With `all`, every list of up to three bytes, else up to two. With `model`,
 //! the model of document 01 stands in for the port, to try the comparison.
@@ -18,13 +18,13 @@ use added::Added;
 use differ::Met;
 use oracle::oracle_api::{self as gimli, Kind};
 use std::sync::Mutex;
-use std::sync::atomic::{AtomicBool, Ordering};
+use std::sync::atomic::{AtomicU64, Ordering};
 use std::time::Instant;
 
 /// Runs `one` for every number below `count`, on all processors.
 fn spread(count: u64, one: impl Fn(u64, &mut Met) -> Result<(), String> + Sync) -> Met {
     let threads = std::thread::available_parallelism().map_or(1, |n| n.get() as u64);
-    let (total, failed) = (Mutex::new(Met::default()), AtomicBool::new(false));
+    let (total, failed) = (Mutex::new(Met::default()), AtomicU64::new(0));
     std::thread::scope(|scope| {
         for thread in 0..threads {
             let (total, failed, one) = (&total, &failed, &one);
@@ -33,9 +33,9 @@ fn spread(count: u64, one: impl Fn(u64, &mut Met) -> Result<(), String> + Sync) 
                 for number in (thread..count).step_by(threads as usize) {
                     if let Err(error) = one(number, &mut met) {
                         println!("{error}");
-                        failed.store(true, Ordering::Relaxed);
+                        failed.fetch_add(1, Ordering::Relaxed);
                     }
-                    if failed.load(Ordering::Relaxed) {
+                    if failed.load(Ordering::Relaxed) > 0 {
                         break;
                     }
                 }
@@ -43,11 +43,16 @@ fn spread(count: u64, one: impl Fn(u64, &mut Met) -> Result<(), String> + Sync) 
             });
         }
     });
-    if failed.into_inner() {
-        println!("a difference was found");
+    differences(failed.into_inner());
+    total.into_inner().unwrap()
+}
+
+/// Ends the program where there are differences, whose number is the last line.
+fn differences(number: u64) {
+    if number > 0 {
+        println!("{number} differences; what follows them was not compared");
         std::process::exit(1);
     }
-    total.into_inner().unwrap()
 }
 
 fn run(port: &impl Added, seeds: u64, first: u64, all: bool) {
@@ -65,7 +70,11 @@ fn run(port: &impl Added, seeds: u64, first: u64, all: bool) {
         for version in 0..=8 {
             for (dwarf64, split) in [(false, false), (false, true), (true, false), (true, true)] {
                 let oracle = gimli::default_base(kind, version, dwarf64, split);
-                assert_eq!(oracle, port.default_base(kind, version, dwarf64, split));
+                let ours = port.default_base(kind, version, dwarf64, split);
+                if oracle != ours {
+                    println!("default base, {kind:?} {version} {dwarf64} {split}: {oracle} {ours}");
+                    differences(1);
+                }
                 bases += 1;
             }
         }
@@ -96,7 +105,7 @@ fn run(port: &impl Added, seeds: u64, first: u64, all: bool) {
         "{cases} built cases from seed {first}, {} calls, none differ, {seconds} s",
         built.calls
     );
-    println!("{} calls compared in all", lists.calls + bases + met.calls + built.calls);
+    println!("{} calls compared in all, 0 differences", lists.calls + bases + met.calls + built.calls);
 }
 
 fn print_names(met: &Met) {
@@ -106,12 +115,21 @@ fn print_names(met: &Met) {
 }
 
 fn main() {
-    let words: Vec<String> = std::env::args().skip(1).collect();
-    let number = |at: usize| words.get(at).and_then(|word| word.parse().ok());
-    let seeds: u64 = number(0).unwrap_or(1_000_000);
-    let first: u64 = number(1).unwrap_or(0);
-    let all = words.iter().any(|word| word == "all");
-    if words.iter().any(|word| word == "model") {
+    let (mut numbers, mut all, mut model) = (Vec::new(), false, false);
+    for word in std::env::args().skip(1) {
+        match (word.as_str(), word.parse::<u64>()) {
+            ("all", _) if !all => all = true,
+            ("model", _) if !model => model = true,
+            (_, Ok(number)) if numbers.len() < 2 && !all && !model => numbers.push(number),
+            _ => {
+                eprintln!("differ [seeds [first seed]] [all] [model]: not {word}");
+                std::process::exit(2);
+            }
+        }
+    }
+    let seeds = numbers.first().copied().unwrap_or(1_000_000);
+    let first = numbers.get(1).copied().unwrap_or(0);
+    if model {
         return run(&model::Model, seeds, first, all);
     }
     run(&port::Ffi, seeds, first, all)

@@ -771,8 +771,8 @@ fn main() {
     let builds = std::fs::read_to_string(path).expect("the file that names the builds");
     let model = words.iter().any(|word| word == "model");
     let differences = if model { run(&model::Model, &builds) } else { run(&port::Ffi, &builds) };
+    println!("{differences} differences");
     if differences > 0 {
-        println!("{differences} differences");
         std::process::exit(1);
     }
 }

@@ -1,0 +1,29 @@
+//! `lists FILE`: every list that an attribute names, with the entry that names it.
+
+use std::path::Path;
+use std::process::ExitCode;
+use yeltzarun_at::program::Program;
+use yeltzarun_at::wrong::Wrong;
+use yeltzarun_at::{command, listing};
+
+const USAGE: &str = "\
+lists FILE [--split SPLIT]..
+
+Prints every range list and location list that an attribute in the ELF file FILE names, with the entry that
+names it, its ranges and its operations, and what it is read with.
+
+SPLIT     a .dwo or .dwp file of FILE. Without one the .dwo files are those that FILE's attributes name
+
+Exit status: 0 every list was read, 1 no attribute names one, 2 bad use, 3 unreadable file, 4 refused,
+5 something that a list is read with is missing. With 4 and 5 what could be read is printed, and what could not.
+";
+
+fn main() -> ExitCode {
+    command::run(USAGE, |words| {
+        let (words, split) = command::split(words)?;
+        let [file] = words[..] else { return Err(Wrong::Use(USAGE.into())) };
+        let listing = listing::lists(&Program::open(Path::new(file), &split)?);
+        let status = listing.status();
+        Ok((listing.text, status))
+    })
+}
