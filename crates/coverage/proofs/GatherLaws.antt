@@ -25,8 +25,8 @@ use Rattle.coverage.specs.Ranges.{Range, Apart, limit, runs}
 use Rattle.coverage.specs.Covered.{yieldedIn, holding, Source, source, listed, traceOf, yieldedOf, coverageOf, Bytes}
 use Rattle.coverage.specs.Kept.{paired, firsts, begins, ends, padded, keptAs}
 use Rattle.coverage.specs.Gathered.{Stored, Gathered, coverageIn}
-use Rattle.coverage.specs.Sorted.{Sized, AtLeast, ToRuns}
-use Rattle.coverage.specs.Told.{Answer, answer, made, Placed, placed, placing, byCount}
+use Rattle.coverage.specs.Sorted.{Sized, ToRuns}
+use Rattle.coverage.specs.Told.{made, Placed, placed, placing, byCount}
 use Rattle.coverage.specs.declared.collect.Collected.{Collected}
 use Rattle.coverage.specs.declared.collect.Collected.the-variants as collected
 use Rattle.coverage.proofs.CallLaws.{after, gather-none, gather-more, gather-over, gather-lost, gather-many}
@@ -34,7 +34,7 @@ use Rattle.coverage.proofs.Small.{Small}
 use Rattle.coverage.proofs.RangeLaws.{runs-apart}
 use Rattle.coverage.proofs.CoveredLaws.{Given, walked-small, small-proper}
 use Rattle.coverage.proofs.SortLaws.{above-set, length-first}
-use Rattle.coverage.proofs.KeptLaws.{take-paired, length-paired, begins-paired, ends-paired}
+use Rattle.coverage.proofs.KeptLaws.{take-paired, begins-paired, ends-paired}
 
 paired-snoc : (bs es : List ℕ) (b e : ℕ) → length bs ≡ length es → paired (bs ++ (b ∷ [])) (es ++ (e ∷ [])) ≡ paired bs es ++ ((b, e) ∷ [])
 paired-snoc [] [] b e h = refl

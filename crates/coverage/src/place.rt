@@ -1,4 +1,4 @@
-// A coverage put into two arrays that a caller lends. They are written whole, 0 past the count; a refusal leaves them as they were.
+// A coverage put into two arrays that a caller lends: written whole, 0 past the count. A refusal leaves them as they were.
 use super::LIMIT;
 use super::SHORT;
 use super::collect::Collected;

@@ -7,11 +7,6 @@ use native.Mathlib.Omega.{arith}
 use borrow.Author.Needs.{needs}
 use Rattle.canonical.proofs.of_list.canonical_list.Statement.{statement}
 use Rattle.canonical.proofs.of_list.canonical_list.Tie as tie
-use Rattle.canonical.proofs.of_list.canonical_list.Reads as reads
-use Rattle.canonical.proofs.of_list.canonical_list.Lts as lts
-use Rattle.canonical.proofs.of_list.canonical_long.Reads as canonical-long-reads
-use Rattle.canonical.proofs.put_list.Reads as put-list-reads
-use Rattle.coverage.proofs.collect.cover_short.Reads as cover-short-reads
 
 cover-short-requires : tie.Need-cover-short-requires
 cover-short-requires c κs = search needs

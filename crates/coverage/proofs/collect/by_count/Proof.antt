@@ -2,8 +2,6 @@
 use borrow.Author.Needs.{needs}
 use Rattle.coverage.proofs.collect.by_count.Statement.{statement}
 use Rattle.coverage.proofs.collect.by_count.Tie as tie
-use Rattle.coverage.proofs.collect.by_count.Reads as reads
-use Rattle.coverage.proofs.collect.by_count.Lts as lts
 
 enum-known-collected : tie.Need-enum-known-collected
 enum-known-collected c = search needs

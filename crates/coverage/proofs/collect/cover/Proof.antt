@@ -7,11 +7,6 @@ use native.Mathlib.Omega.{arith}
 use borrow.Author.Needs.{needs}
 use Rattle.coverage.proofs.collect.cover.Statement.{statement}
 use Rattle.coverage.proofs.collect.cover.Tie as tie
-use Rattle.coverage.proofs.collect.cover.Reads as reads
-use Rattle.coverage.proofs.collect.cover.Lts as lts
-use Rattle.coverage.proofs.collect.gather.Reads as gather-reads
-use Rattle.coverage.proofs.sort.to_runs.Reads as to-runs-reads
-use Rattle.lists.proofs.rnglists.ranges.Reads as ranges-reads
 
 ranges-requires : tie.Need-ranges-requires
 ranges-requires c κs = search needs

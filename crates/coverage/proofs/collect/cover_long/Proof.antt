@@ -6,9 +6,6 @@ use Rattle.coverage.specs.Ranges.{limit}
 use borrow.Author.Needs.{needs}
 use Rattle.coverage.proofs.collect.cover_long.Statement.{statement}
 use Rattle.coverage.proofs.collect.cover_long.Tie as tie
-use Rattle.coverage.proofs.collect.cover_long.Reads as reads
-use Rattle.coverage.proofs.collect.cover_long.Lts as lts
-use Rattle.coverage.proofs.collect.cover.Reads as cover-reads
 
 cover-requires : tie.Need-cover-requires
 cover-requires c κs = search needs

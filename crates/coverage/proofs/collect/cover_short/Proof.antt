@@ -6,9 +6,6 @@ use Rattle.coverage.specs.Gathered.{short}
 use borrow.Author.Needs.{needs}
 use Rattle.coverage.proofs.collect.cover_short.Statement.{statement}
 use Rattle.coverage.proofs.collect.cover_short.Tie as tie
-use Rattle.coverage.proofs.collect.cover_short.Reads as reads
-use Rattle.coverage.proofs.collect.cover_short.Lts as lts
-use Rattle.coverage.proofs.collect.cover.Reads as cover-reads
 
 cover-requires : tie.Need-cover-requires
 cover-requires c κs = search needs

@@ -4,10 +4,6 @@ use Rattle.coverage.proofs.GatherLaws.{placed-coverage}
 use borrow.Author.Needs.{needs}
 use Rattle.coverage.proofs.collect.from_canonical.Statement.{statement}
 use Rattle.coverage.proofs.collect.from_canonical.Tie as tie
-use Rattle.coverage.proofs.collect.from_canonical.Reads as reads
-use Rattle.coverage.proofs.collect.from_canonical.Lts as lts
-use Rattle.coverage.proofs.collect.by_count.Reads as by-count-reads
-use Rattle.coverage.proofs.place.place_canonical.Reads as place-canonical-reads
 
 place-canonical-requires : tie.Need-place-canonical-requires
 place-canonical-requires c κs = search needs

@@ -4,10 +4,6 @@ use Rattle.coverage.proofs.GatherLaws.{placed-coverage}
 use borrow.Author.Needs.{needs}
 use Rattle.coverage.proofs.collect.location_coverage.Statement.{statement}
 use Rattle.coverage.proofs.collect.location_coverage.Tie as tie
-use Rattle.coverage.proofs.collect.location_coverage.Reads as reads
-use Rattle.coverage.proofs.collect.location_coverage.Lts as lts
-use Rattle.coverage.proofs.collect.by_count.Reads as by-count-reads
-use Rattle.coverage.proofs.place.place_locations.Reads as place-locations-reads
 
 place-locations-requires : tie.Need-place-locations-requires
 place-locations-requires c κs = search needs

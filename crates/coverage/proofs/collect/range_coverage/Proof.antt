@@ -4,10 +4,6 @@ use Rattle.coverage.proofs.GatherLaws.{placed-coverage}
 use borrow.Author.Needs.{needs}
 use Rattle.coverage.proofs.collect.range_coverage.Statement.{statement}
 use Rattle.coverage.proofs.collect.range_coverage.Tie as tie
-use Rattle.coverage.proofs.collect.range_coverage.Reads as reads
-use Rattle.coverage.proofs.collect.range_coverage.Lts as lts
-use Rattle.coverage.proofs.collect.by_count.Reads as by-count-reads
-use Rattle.coverage.proofs.place.place_ranges.Reads as place-ranges-reads
 
 place-ranges-requires : tie.Need-place-ranges-requires
 place-ranges-requires c κs = search needs

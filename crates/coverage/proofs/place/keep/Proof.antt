@@ -3,8 +3,6 @@ use Prim.Native.Nat.{_-_}
 use Rattle.coverage.proofs.GatherLaws.{Keeping, keeping-none, keeping-more, keeping-done}
 use Rattle.coverage.proofs.place.keep.Statement.{statement}
 use Rattle.coverage.proofs.place.keep.Tie as tie
-use Rattle.coverage.proofs.place.keep.Reads as reads
-use Rattle.coverage.proofs.place.keep.Lts as lts
 
 abbrev Inv-loop : tie.InvT-loop
 Inv-loop from n to₀ i₀ to i = Keeping from n to i
@@ -12,39 +10,30 @@ Inv-loop from n to₀ i₀ to i = Keeping from n to i
 abbrev μ-loop : tie.MeasureT-loop
 μ-loop from n to₀ i₀ to i = n - i
 
--- src/place.rt:31:5
 loop-holds : tie.Need-loop-holds Inv-loop μ-loop
 loop-holds c = keeping-none (c .before .pre)
 
--- src/place.rt:32:17
 mul-to : tie.Need-mul-to Inv-loop μ-loop
 mul-to c = omega arith
 
--- src/place.rt:32:17
 shared-slice-read-to : tie.Need-shared-slice-read-to Inv-loop μ-loop
 shared-slice-read-to c = omega arith
 
--- src/place.rt:32:9
 mul-to-2 : tie.Need-mul-to-2 Inv-loop μ-loop
 mul-to-2 c = omega arith
 
--- src/place.rt:32:9
 element-write-to : tie.Need-element-write-to Inv-loop μ-loop
 element-write-to c = omega arith
 
--- src/place.rt:33:9
 add-i : tie.Need-add-i Inv-loop μ-loop
 add-i c = omega arith
 
--- src/place.rt:31:5
 loop-less : tie.Need-loop-less Inv-loop μ-loop
 loop-less c = omega arith
 
--- src/place.rt:31:5
 loop-again : tie.Need-loop-again Inv-loop μ-loop
 loop-again c = keeping-more (c .before .before .loop .inv) (c .before .loop-test .taken)
 
--- src/place.rt:25:1
 returns : tie.Need-returns Inv-loop μ-loop
 returns c = keeping-done (c .before .loop .inv) (c .loop-test .left)
 

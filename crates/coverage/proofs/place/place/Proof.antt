@@ -1,9 +1,6 @@
 -- Begins and ends are kept alike. Assumes nothing.
 use Rattle.coverage.proofs.place.place.Statement.{statement}
 use Rattle.coverage.proofs.place.place.Tie as tie
-use Rattle.coverage.proofs.place.place.Reads as reads
-use Rattle.coverage.proofs.place.place.Lts as lts
-use Rattle.coverage.proofs.place.keep.Reads as keep-reads
 
 keep-requires : tie.Need-keep-requires
 keep-requires c κs = let p = c .before .before .before .pre in (p .0 .0, p .1)

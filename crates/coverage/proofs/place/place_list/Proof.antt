@@ -5,11 +5,6 @@ use native.Mathlib.Omega.{arith}
 use borrow.Author.Needs.{needs}
 use Rattle.coverage.proofs.place.place_list.Statement.{statement}
 use Rattle.coverage.proofs.place.place_list.Tie as tie
-use Rattle.coverage.proofs.place.place_list.Reads as reads
-use Rattle.coverage.proofs.place.place_list.Lts as lts
-use Rattle.coverage.proofs.collect.cover_short.Reads as cover-short-reads
-use Rattle.coverage.proofs.place.place.Reads as place-reads
-use Rattle.coverage.proofs.place.place_long.Reads as place-long-reads
 
 cover-short-requires : tie.Need-cover-short-requires
 cover-short-requires c κs = search needs
