@@ -1,4 +1,4 @@
-/* Each export through the header, on good and on bad input. The expected values are DWARF's and document 01's, worked out by
+/* Each export through the header, on good and on bad input. The expected values are DWARF's and docs/SCOPE.md's, worked out by
  * hand. A test has its export's name; --list prints the names, --refusals the refusals' numbers and names. It is compiled as
  * C99, C11 and C++11. */
 #include "yeltzarun.h"
@@ -107,7 +107,7 @@ static void (*volatile old)(void *, size_t) = make_old;
 #define S(bytes) (const uint8_t *)(bytes), sizeof(bytes) - 1
 #define NO_BYTES NULL, 0
 
-/* Document 01's address table, its addresses from 8 on, in both orders. */
+/* The scope's address table, its addresses from 8 on, in both orders. */
 #define TABLE S("\x0c\0\0\0\x05\0\x04\0\x10\0\0\0\x20\0\0\0")
 #define BIG_TABLE S("\0\0\0\x0c\0\x05\x04\0\0\0\0\x10\0\0\0\x20")
 /* A header of lists with two offsets, 8 and 10, and two lists of one byte. */
@@ -117,7 +117,7 @@ static void (*volatile old)(void *, size_t) = make_old;
 #define NINE "\x80\x80\x80\x80\x80\x80\x80\x80\x80"
 /* 2^61 as LEB128: times 8 it is 2^64. */
 #define INDEX_2_61 "\x80\x80\x80\x80\x80\x80\x80\x80\x20"
-/* Document 01's two ranges that touch, and their canonical list and sheet. */
+/* The scope's two ranges that touch, and their canonical list and sheet. */
 #define TOUCHING S("\x07\x20\0\0\0\x10\x07\x10\0\0\0\x10\0")
 #define TOUCHING_CANONICAL "\x07\x10\0\0\0\0\0\0\0\x20\0"
 #define TOUCHING_SHEET "\x01\0\x08\0\x10\0\0\0\0\0\0\0\x30\0\0\0\0\0\0"

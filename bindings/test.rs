@@ -1,5 +1,5 @@
 //! Each export through the wrapper, on good and on bad input. The expected values are DWARF's and
-//! document 01's, worked out by hand. A test has its export's name; `--list` prints the names,
+//! the scope's, worked out by hand. A test has its export's name; `--list` prints the names,
 //! `--refusals` the refusals' numbers and names.
 
 use std::fmt::Debug;
@@ -112,7 +112,7 @@ fn main() -> ExitCode {
 const EOF: Error = Error::UnexpectedEof;
 const TWO_TO_61: u64 = 1 << 61;
 
-/// Document 01's address table: its addresses begin at 8.
+/// The scope's address table: its addresses begin at 8.
 const TABLE: &[u8] = &[0x0c, 0, 0, 0, 5, 0, 4, 0, 0x10, 0, 0, 0, 0x20, 0, 0, 0];
 /// The same in the other order.
 const BIG_TABLE: &[u8] = &[0, 0, 0, 0x0c, 0, 5, 4, 0, 0, 0, 0, 0x10, 0, 0, 0, 0x20];
@@ -965,7 +965,7 @@ fn apart(n: u32) -> Vec<u8> {
     (0..n).flat_map(|i| join(&[&[7], &(0x10 + 2 * i).to_le_bytes(), &[1]])).collect()
 }
 
-/// Document 01's two ranges that touch: 0x20 to 0x30 and 0x10 to 0x20.
+/// The scope's two ranges that touch: 0x20 to 0x30 and 0x10 to 0x20.
 const TOUCHING: &[u8] = &[7, 0x20, 0, 0, 0, 0x10, 7, 0x10, 0, 0, 0, 0x10, 0];
 /// Their canonical list.
 const TOUCHING_CANONICAL: &[u8] = &[7, 0x10, 0, 0, 0, 0, 0, 0, 0, 0x20, 0];

@@ -1,6 +1,6 @@
 //! Compares the calls that gimli has no match for: coverage, sheets, canonical
 //! lists. Beside them stands a plain version, written for the purpose: gimli's
-//! walk gathered in a vector, sorted and merged, and document 01's bytes.
+//! walk gathered in a vector, sorted and merged, and the scope's bytes.
 
 use generator::Random;
 use oracle::oracle_api::*;

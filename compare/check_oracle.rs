@@ -1,4 +1,4 @@
-//! Runs the examples of document 01 and the rows of its open points through
+//! Runs the examples of the scope and the rows of its open points through
 //! the oracle, and says which answers differ from the ones stated there.
 
 use oracle::oracle_api::*;
@@ -27,7 +27,7 @@ fn join(parts: &[&[u8]]) -> Vec<u8> {
     parts.concat()
 }
 
-/// Document 01's usual list: version 5, size 4, little-endian, base 0.
+/// The scope's usual list: version 5, size 4, little-endian, base 0.
 fn list(kind: Kind, section: &[u8]) -> List<'_> {
     List {
         kind,
@@ -147,7 +147,7 @@ fn examples(c: &mut Check) {
     c.same("its source", walk(&l, 9), vec![range(0x20, 0x30), range(0x10, 0x20), end]);
 }
 
-/// Document 01's table of kinds: every number, by the form it is read as.
+/// The scope's table of kinds: every number, by the form it is read as.
 fn kinds(c: &mut Check) {
     use Form::*;
     let table = [
@@ -500,7 +500,7 @@ fn open_points(c: &mut Check) {
     c.same("row 16, 2^63", walk(&list(Locations, &l), 9), vec![refused(1, 0), end]);
 }
 
-/// What gimli answers where document 01 lists a difference.
+/// What gimli answers where the scope lists a difference.
 fn differences(c: &mut Check) {
     use Kind::*;
     let end = Answer::End;

@@ -1,6 +1,6 @@
 //! Compares a reader with the oracle, call by call. The reader is anything
 //! that answers the calls of `Port`; cases come from the generator. Left out
-//! are document 01's listed differences: walks with other address sizes, and
+//! are the scope's listed differences: walks with other address sizes, and
 //! list offsets whose sum passes 2^64. They are counted, and the reader is
 //! held to the page there.
 
@@ -138,7 +138,7 @@ impl Met {
         if page == port {
             return Ok(());
         }
-        Err(format!("{call}: document 01 {page:x?}, port {port:x?}"))
+        Err(format!("{call}: the scope {page:x?}, port {port:x?}"))
     }
 }
 

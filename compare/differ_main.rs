@@ -6,7 +6,7 @@
 //!   differ [seeds [first seed]] [all] [model]
 //!
 //! With `all`, every list of up to three bytes, else up to two. With `model`,
-//! the model of document 01 stands in for the port, to try the comparison.
+//! the model of the scope stands in for the port, to try the comparison.
 
 mod added;
 mod built;
@@ -91,7 +91,7 @@ fn run(port: &impl Added, seeds: u64, first: u64, all: bool) {
     print_names(&met);
     let seconds = start.elapsed().as_secs();
     println!("{seeds} seeds from {first}, {} calls, none differ, {seconds} s", met.calls);
-    println!("{} calls left out, none differs from document 01", met.left_out);
+    println!("{} calls left out, none differs from the scope", met.left_out);
 
     let start = Instant::now();
     let cases = seeds.div_ceil(20);

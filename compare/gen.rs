@@ -333,7 +333,7 @@ fn kind_entry(w: &mut Writer, r: &mut Random, list: &ListCase, count: u64, wild:
     let size = list.address_size;
     let located = list.kind != Kind::Ranges;
     let old = list.version <= 4;
-    // By document 01's meanings: 1 to 8 are location kinds.
+    // By the scope's meanings: 1 to 8 are location kinds.
     let meaning = r.pick(&[1, 2, 3, 3, 4, 4, 4, 5, 6, 7, 7, 8, 8]);
     if !located && meaning == 5 {
         return;

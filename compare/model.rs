@@ -1,4 +1,4 @@
-//! Document 01's rules, read straight off the page: a second reader to try the
+//! The scope's rules, read straight off the page: a second reader to try the
 //! comparison with, and to see whether gimli's answers and the page agree.
 //! Slow and short; it shares nothing with gimli's code.
 
@@ -128,7 +128,7 @@ enum Operand {
     Length,
 }
 
-/// Document 01's table of kinds, in the numbers of locations: form, operands,
+/// The scope's table of kinds, in the numbers of locations: form, operands,
 /// and whether an expression follows.
 fn kind(code: u64) -> Option<(Form, &'static [Operand], bool)> {
     use Operand::*;

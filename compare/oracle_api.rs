@@ -4,7 +4,7 @@
 //! refusals, and places counted from a section's start.
 //!
 //! Walks with an address size other than 1, 2, 4, 8 are outside the
-//! comparison: document 01 lists them as a difference.
+//! comparison: the scope lists them as a difference.
 
 use core::fmt::Debug;
 
@@ -24,7 +24,7 @@ use crate::read::{
 
 type Slice<'a> = EndianSlice<'a, RunTimeEndian>;
 
-/// A refusal by document 01's number, with its value, 0 where it has none.
+/// A refusal by the scope's number, with its value, 0 where it has none.
 #[derive(Debug, Clone, Copy, PartialEq, Eq, Hash)]
 pub struct Refusal {
     pub number: u8,
@@ -48,7 +48,7 @@ pub enum Converted {
 }
 
 /// What `get_offset` answers. `SumTooLarge`: base plus the offset read is not
-/// below 2^64, where document 01 lists a difference.
+/// below 2^64, where the scope lists a difference.
 #[derive(Debug, Clone, Copy, PartialEq, Eq, Hash)]
 pub enum OffsetAnswer {
     Offset(u64),

@@ -86,7 +86,7 @@ impl Shape {
         vec![Part::Address(begin), Part::Address(end)]
     }
 
-    /// An entry by document 01's numbers of location kinds, 1 to 8.
+    /// An entry by the scope's numbers of location kinds, 1 to 8.
     fn entry(&self, meaning: u8, a: u64, b: u64) -> Vec<Part> {
         let code = Part::Code(if self.located() || meaning < 5 { meaning } else { meaning - 1 });
         let mut parts = vec![code];

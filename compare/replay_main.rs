@@ -6,7 +6,7 @@
 //!   make-replay <calls> <answers>
 //!
 //! `crates/replay/src` says what a line means. Left out are the differences
-//! that document 01 lists: lists with other address sizes, and offsets of
+//! that the scope lists: lists with other address sizes, and offsets of
 //! lists whose sum passes 2^64.
 
 mod replay_calls;

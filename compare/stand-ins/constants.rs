@@ -1,6 +1,6 @@
 // Stands for the two tables of kind numbers in gimli's `constants` module.
 // It can't change an answer: the names are bound to the numbers of DWARF 5,
-// 7.25 (ranges) and 7.7.3 (locations), the same as in document 01's table, and
+// 7.25 (ranges) and 7.7.3 (locations), the same as in the scope's table, and
 // a number without a name is carried along as it is.
 
 #![allow(non_upper_case_globals)]

@@ -7,7 +7,7 @@ use crate::read::ReaderOffsetId;
 
 #[derive(Debug, Clone, Copy, PartialEq, Eq)]
 pub enum Error {
-    // The nine that have a number in document 01.
+    // The nine that have a number in the scope.
     UnexpectedEof(ReaderOffsetId),
     BadUnsignedLeb128,
     UnknownRangeListsEntry(DwRle),
@@ -17,7 +17,7 @@ pub enum Error {
     UnsupportedSegmentSize(u8),
     UnknownReservedLength(u32),
     UnsupportedOffset,
-    // Named only by functions outside document 01: strings, signed numbers,
+    // Named only by functions outside the scope: strings, signed numbers,
     // `add_sized`, sized offsets.
     BadUtf8,
     BadSignedLeb128,

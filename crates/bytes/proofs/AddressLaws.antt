@@ -42,7 +42,7 @@ module _ (size : ℕ) where
       (λ h. rw (← ones-wide h) (and-mask x 64 ∙ mod-eq-of-lt {n = x} l ∙ sym (wide-low x h l)))
       (under size 8)
 
-  -- the tombstone bound as document 01 writes it
+  -- the tombstone bound as docs/SCOPE.md writes it
   pub tombstone-is : 0 < size → size ≤ 8 → minTombstone size ≡ 2 ^ (8 * size) - 2
   tombstone-is z h =
       let e : 64 - 8 * size + 8 * size ≡ 64 = omega arith in

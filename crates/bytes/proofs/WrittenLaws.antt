@@ -130,10 +130,13 @@ below-read k at b bs (gives (got v c)) l p =
     ⊎-elim
     (λ q. rw (unsigned-short k x q) ((omega (arith, p .0), λ i e. absurd (omega (arith, p .0)))))
     (λ q. rw (unsigned-long k x q, d)
-    ((omega (arith, p .0), λ i e.
-    let h : b < 256 = i 0 in
-    let m : x % 128 + 128 ≡ b = omega arith in
-    rw m (ap (λ (t : List ℕ). b ∷ t) (p .1 (λ j. i (suc j)) (omega arith))))))
+    ((
+      omega (arith, p .0),
+      λ i e.
+          let h : b < 256 = i 0 in
+          let m : x % 128 + 128 ≡ b = omega arith in
+          rw m (ap (λ (t : List ℕ). b ∷ t) (p .1 (λ j. i (suc j)) (omega arith))),
+    )))
     (lt-or-le x 128)
 
 read-from : (l : List ℕ) (j k at : ℕ) → j + k ≡ 9 → Read-as k at l (unsignedFrom j l at)

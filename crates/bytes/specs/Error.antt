@@ -1,4 +1,4 @@
--- Document 01's table of refusals: the number and the values of each. Nothing else knows a number.
+-- The table of refusals (docs/SCOPE.md, "Refusals"): the number and the values of each. Nothing else knows a number.
 use Prim.Native.Nat.{ℕ}
 use mathlib.Core.List.{List, [], _∷_}
 use Rattle.bytes.specs.Read.{Result, gives, refused, got, Read}
@@ -59,7 +59,7 @@ values BadSheet = []
 abbrev pub refusal : {A : Type 0} → Error → Result A
 refusal e = refused (number e) (values e)
 
--- the answers of this crate, told so
+-- this crate's answers told as the definitions'
 abbrev pub told : Num → Read ℕ
 told (num.Got v c) = gives (got v c)
 told (num.Refused e) = refusal e

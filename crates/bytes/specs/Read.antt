@@ -1,4 +1,4 @@
--- What is asked for, or a refusal by document 01's number and values: every answer has it, and every refusal is here.
+-- What is asked for, or a refusal by its number and values: every answer has it, and every refusal is here.
 use Prim.Native.Nat.{ℕ}
 use mathlib.Core.Bool.{Bool, true, false}
 use mathlib.Core.List.{List}

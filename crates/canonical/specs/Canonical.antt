@@ -1,4 +1,4 @@
--- The canonical list of a coverage (document 01, "Canonical list").
+-- The canonical list of a coverage (docs/SCOPE.md, "Canonical list").
 use mathlib.Core.List.{List, [], _∷_, _++_}
 use Prim.Native.Nat.{ℕ, _-_}
 use Rattle.bytes.specs.Read.{Result, gives, andThen, pick}
@@ -14,7 +14,7 @@ use Rattle.coverage.specs.declared.Coverage.{Coverage}
 unfoldable pub entryBytes : Range → List ℕ
 entryBytes r = 7 ∷ (littleBytes 8 (r .0) ++ unsignedBytes (r .1 - r .0))
 
--- an entry for each range, in order, then 00 (document 01, "Canonical list")
+-- an entry for each range, in order, then 00 (docs/SCOPE.md, "Canonical list")
 unfoldable pub canonicalBytes : List Range → List ℕ
 canonicalBytes [] = 0 ∷ []
 canonicalBytes (r ∷ rs) = entryBytes r ++ canonicalBytes rs
@@ -23,6 +23,6 @@ canonicalBytes (r ∷ rs) = entryBytes r ++ canonicalBytes rs
 unfoldable pub canonicalOf : Source → Result (List ℕ)
 canonicalOf x = andThen (coverageOf x) (λ rs. gives (canonicalBytes rs))
 
--- the canonical list of a coverage handed in; one that makes no lawful sheet is refused (document 01, "Coverage")
+-- the canonical list of a coverage handed in; one that makes no lawful sheet is refused (docs/SCOPE.md, "Coverage")
 unfoldable pub canonicalKept : Coverage → Result (List ℕ)
 canonicalKept c = pick (lawfulSheet c) (gives (canonicalBytes (rangesOf c))) (refusal BadSheet)

@@ -1,4 +1,5 @@
--- The table's rows on coverage, sheets and canonical lists: document 01's last T case, from a list's bytes, and refusal 12's
+-- The table's rows on coverage, sheets and canonical lists: the last worked example of docs/SCOPE.md, from a list's bytes, and
+-- refusal 12's
 -- example.
 use mathlib.Core.Path.{_≡_, refl}
 use mathlib.Core.List.{[], _∷_}

@@ -1,4 +1,5 @@
--- Document 01's T cases, its rows of refusals and the open points that compute: one table, proved from the definitions.
+-- The worked examples of docs/SCOPE.md, its rows of refusals and the open points of docs/DECISIONS.md that compute: one table,
+-- proved from the definitions.
 -- A list is shown whole: what its opening answers, then what each call of the walk hands out, with the walk after it.
 use mathlib.Core.Path.{_≡_, refl}
 use mathlib.Core.Bool.{Bool, true, false}
@@ -33,7 +34,7 @@ use Rattle.lists.specs.declared.Walk.{Walk}
 abbrev enc : ℕ → ℕ → Encoding
 enc version size = record { «address_size» = size; format = Dwarf32; version = version }
 
--- the address table of document 01; its addresses start at 8
+-- the address table of docs/SCOPE.md; its addresses start at 8
 abbrev table : List ℕ
 table = 0x0c ∷ 0x00 ∷ 0x00 ∷ 0x00 ∷ 0x05 ∷ 0x00 ∷ 0x04 ∷ 0x00 ∷ 0x10 ∷ 0x00 ∷ 0x00 ∷ 0x00 ∷ 0x20 ∷ 0x00 ∷ 0x00 ∷ 0x00 ∷ []
 

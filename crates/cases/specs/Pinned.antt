@@ -1,4 +1,4 @@
--- Equations at the edges of the definitions, where no example of document 01 stands: a definition that is changed there is
+-- Equations at the edges of the definitions, where no worked example of docs/SCOPE.md stands: a definition that is changed there is
 -- noticed here.
 use mathlib.Core.Path.{_≡_, refl}
 use mathlib.Core.Bool.{false}

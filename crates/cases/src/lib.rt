@@ -1,1 +1,1 @@
-// Document 01's worked cases: specs/Cases.antt has them all, proved from the definitions of the crates below.
+// The worked examples of docs/SCOPE.md: specs/Cases.antt has them all, proved from the definitions of the crates below.

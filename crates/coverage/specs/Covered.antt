@@ -18,14 +18,14 @@ use Rattle.lists.specs.declared.Walk.{Walk}
 use Rattle.coverage.specs.Ranges.{Range, Covers, limit, runs}
 
 -- the ranges that a list yields, in order, with room for some number of them: the first refusal met is the answer, or
--- refusal 10 at the first range without room, whichever comes first (document 01, "Refusals")
+-- refusal 10 at the first range without room, whichever comes first (docs/SCOPE.md, "Refusals")
 unfoldable pub yieldedIn : {D : Type 0} → ℕ → Trace D → Result (List Range)
 yieldedIn room (over w) = gives []
 yieldedIn room (handed (refused n vs) w t) = refused n vs
 yieldedIn zero (handed (gives i) w t) = refusal TooManyRanges
 yieldedIn (suc room) (handed (gives (item b e d)) w t) = andThen (yieldedIn room t) (λ rs. gives ((b, e) ∷ rs))
 
--- whether a list holds ranges or locations, and then whether it is split (document 01, "Demand 3")
+-- whether a list holds ranges or locations, and then whether it is split (docs/SCOPE.md, "Demand 3")
 pub data Holds : Type 0 where
   rangeList : Holds
   locationList : Bool → Holds
@@ -36,7 +36,7 @@ holding true split = locationList split
 holding false split = rangeList
 
 -- a list: its sections, offset, base address, address table and table base, version and size, byte order, and what it holds
--- (document 01, "Demand 3")
+-- (docs/SCOPE.md, "Demand 3")
 pub record Source : Type 0 where
   pub section : List ℕ
   pub table : List ℕ
@@ -72,11 +72,11 @@ traceOf x w =
     trace (listed (x .holds) (x .encoding) (x .endian) (x .section)) (tableAt (x .endian) (x .encoding) (x .«table_base») (x .table))
     (x .encoding .«address_size») (length (x .section)) w
 
--- the ranges that a list yields: its opening, then its walk (document 01, "Demand 3")
+-- the ranges that a list yields: its opening, then its walk (docs/SCOPE.md, "Demand 3")
 unfoldable pub yieldedOf : Source → Result (List Range)
 yieldedOf x = andThen (opened (x .encoding) (x .section) (x .offset) (x .«base_address»)) (λ w. yieldedIn limit (traceOf x w))
 
--- the coverage of a list, or its refusal (document 01, "Coverage")
+-- the coverage of a list, or its refusal (docs/SCOPE.md, "Coverage")
 unfoldable pub coverageOf : Source → Result (List Range)
 coverageOf x = andThen (yieldedOf x) (λ rs. gives (runs rs))
 
@@ -85,7 +85,7 @@ abbrev pub CoversGiven : Result (List Range) → ℕ → Type 0
 CoversGiven (gives rs) a = Covers rs a
 CoversGiven (refused n vs) a = ⊥
 
--- the addresses inside some range that a list yields (document 01, "Coverage")
+-- the addresses inside some range that a list yields (docs/SCOPE.md, "Coverage")
 abbrev pub CoveredBy : Source → ℕ → Type 0
 CoveredBy x a = CoversGiven (yieldedOf x) a
 
@@ -99,6 +99,6 @@ abbrev pub canonicalEncoding : Format → Encoding
 canonicalEncoding format = record { «address_size» = 8; format = format; version = 5 }
 
 -- bytes as a section of their own, read from offset 0 as a little-endian range list of that encoding: so a canonical list is
--- walked in its turn (document 01, "Demand 3")
+-- walked in its turn (docs/SCOPE.md, "Demand 3")
 abbrev pub readBack : Format → List ℕ → ℕ → List ℕ → DebugAddrBase → Source
 readBack format s base table tableBase = source rangeList (canonicalEncoding format) Little s 0 base table tableBase

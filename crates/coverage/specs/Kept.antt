@@ -25,7 +25,7 @@ ends rs = map (λ (r : Range). r .1) rs
 abbrev pub firsts : ℕ → List ℕ → List ℕ → List Range
 firsts n bs es = take n (paired bs es)
 
--- the ranges of a coverage: as many as it counts; places past the count are not read (document 01, "Coverage")
+-- the ranges of a coverage: as many as it counts; places past the count are not read (docs/SCOPE.md, "Coverage")
 unfoldable pub rangesOf : Coverage → List Range
 rangesOf c = firsts (c .n) (c .begins) (c .ends)
 
@@ -33,16 +33,16 @@ rangesOf c = firsts (c .n) (c .begins) (c .ends)
 unfoldable pub padded : List ℕ → List ℕ
 padded l = l ++ replicate (limit - length l) 0
 
--- the coverage that keeps ranges: their count, begins and ends, 0 past the count (document 01, "Coverage")
+-- the coverage that keeps ranges: their count, begins and ends, 0 past the count (docs/SCOPE.md, "Coverage")
 unfoldable pub keptAs : List Range → Coverage
 keptAs rs = record { n = length rs; begins = padded (begins rs); ends = padded (ends rs) }
 
 -- whether the first begin is at least lo and each later one above the end before, and each is below its end and below
--- the tombstone bound of 64 bits (document 01, refusal 12)
+-- the tombstone bound of 64 bits (docs/SCOPE.md, refusal 12)
 unfoldable pub lawfulFrom : ℕ → List Range → Bool
 lawfulFrom lo [] = true
 lawfulFrom lo (r ∷ rs) = leb lo (r .0) && ltb (r .0) (r .1) && ltb (r .0) (minTombstone 8) && lawfulFrom (suc (r .1)) rs
 
--- whether a coverage makes a lawful sheet (document 01, "Coverage" and refusal 12)
+-- whether a coverage makes a lawful sheet (docs/SCOPE.md, "Coverage" and refusal 12)
 unfoldable pub lawfulSheet : Coverage → Bool
 lawfulSheet c = leb (c .n) limit && lawfulFrom 0 (rangesOf c)

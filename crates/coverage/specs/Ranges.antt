@@ -9,26 +9,26 @@ use Rattle.bytes.specs.Read.{pick}
 abbrev pub Range : Type 0
 Range = ℕ × ℕ
 
--- how many ranges a list may yield, and a coverage keep (document 01, "Coverage" and refusal 10)
+-- how many ranges a list may yield, and a coverage keep (docs/SCOPE.md, "Coverage" and refusal 10)
 abbrev pub limit : ℕ
 limit = 1024
 
--- an address inside a range: begin ≤ address < end (document 01, "Coverage")
+-- an address inside a range: begin ≤ address < end (docs/SCOPE.md, "Coverage")
 abbrev pub Inside : Range → ℕ → Type 0
 Inside r a = (r .0 ≤ a) × (a < r .1)
 
--- an address inside some range of a list (document 01, "Coverage")
+-- an address inside some range of a list (docs/SCOPE.md, "Coverage")
 abbrev pub Covers : List Range → ℕ → Type 0
 Covers [] a = ⊥
 Covers (r ∷ rs) a = Inside r a ⊎ Covers rs a
 
--- ascending from lo on, each begin below its end and above the end before: never overlapping or touching (document 01,
+-- ascending from lo on, each begin below its end and above the end before: never overlapping or touching (docs/SCOPE.md,
 -- "Coverage")
 abbrev pub From : ℕ → List Range → Type 0
 From lo [] = Unit
 From lo (r ∷ rs) = (lo ≤ r .0) × (r .0 < r .1) × From (suc (r .1)) rs
 
--- lawful ranges: they keep apart from address 0 on (document 01, "Coverage")
+-- lawful ranges: they keep apart from address 0 on (docs/SCOPE.md, "Coverage")
 abbrev pub Apart : List Range → Type 0
 Apart rs = From 0 rs
 
@@ -46,6 +46,6 @@ unfoldable pub inserts : List Range → List Range → List Range
 inserts acc [] = acc
 inserts acc (r ∷ rs) = inserts (insert (r .0) (r .1) acc) rs
 
--- the longest unbroken runs of the addresses that ranges cover (document 01, "Coverage")
+-- the longest unbroken runs of the addresses that ranges cover (docs/SCOPE.md, "Coverage")
 abbrev pub runs : List Range → List Range
 runs rs = inserts [] rs

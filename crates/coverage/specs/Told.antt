@@ -1,4 +1,4 @@
--- The answers of the calls over coverages, told by document 01's numbers.
+-- The answers of the calls over coverages, told by the numbers of refusals.
 use mathlib.Core.List.{List, []}
 use Prim.Native.Nat.{ℕ}
 use lib.ListN.{length}

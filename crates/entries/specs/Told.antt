@@ -1,4 +1,4 @@
--- What a raw reader's call answers, and the code's answers told so.
+-- What a raw reader's call answers, and the code's answers told as the definitions' (docs/SCOPE.md, "Words").
 use Prim.Native.Nat.{ℕ}
 use Rattle.bytes.specs.Read.{Result, gives, refused, got, Read}
 use Rattle.bytes.specs.Error.{refusal}

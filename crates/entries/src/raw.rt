@@ -171,7 +171,7 @@ fn range_entry(part: &[u8], start: usize, encoding: Encoding, endian: RunTimeEnd
     step_of(head, part, start, encoding, endian, false)
 }
 
-// The same of a location list: kinds in split lists, too.
+// The entry at the front of a part of a location list: kinds from version 5 on, and in split lists of every version.
 fn location_entry(
     part: &[u8],
     start: usize,

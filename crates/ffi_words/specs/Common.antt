@@ -85,7 +85,7 @@ nothing = comesTo 2
 abbrev pub notThere : YzDone
 notThere = comesTo 3
 
--- by document 01's number, with its value, 0 where it has none
+-- by its number, with its value, 0 where it has none
 abbrev pub refusedBy : ℕ → List ℕ → YzDone
 refusedBy n vs = record { result = 4; refusal = n; «refusal_value» = getD vs 0 0 }
 

@@ -42,7 +42,9 @@ told (code.Base a) = gives (rebase a)
 told code.Skip = gives skip
 told (code.Refused e) = refusal e
 
--- a range is skipped when its begin is at or above the tombstone bound, or not below its end
+-- a range is skipped when its begin is at or above the tombstone bound, or not below its end. gimli's reason: DWARF's tombstones are
+-- the two highest addresses, but linkers write 0 or 1 too, which may be real addresses and are not skipped as such; a pair of which
+-- both were replaced is empty, and empty or backward ranges, which compilers' faults leave, hold no address
 abbrev pub bounded : ℕ → ℕ → ℕ → Result Turn
 bounded size b e = pick (leb (minTombstone size) b) (gives skip) (pick (leb e b) (gives skip) (gives (range b e)))
 

@@ -164,7 +164,7 @@ nextRawLocation split encoding endian s w = nextRawOf true split encoding endian
 abbrev pub convertedLocation : Encoding → RunTimeEndian → List ℕ → DebugAddrBase → Walk → RawLocListEntry → Outcome Expression
 convertedLocation encoding endian table tableBase w e = convertRaw (locations false encoding endian table) (tableAt endian encoding tableBase table) (encoding .«address_size») w e
 
--- the code's answers told so
+-- the code's answers told as the definitions'
 abbrev pub toldRawRange : RawRangeAnswer → Next RawRngListEntry Walk
 toldRawRange (rawRng.Entry e w) = hands (gives e) w
 toldRawRange (rawRng.End w) = ends w

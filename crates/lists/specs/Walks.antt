@@ -1,4 +1,4 @@
--- What holds of every walk, whatever the bytes: the statements of demand 2 and of document 01's sentences on `convert_raw`. Their
+-- What holds of every walk, whatever the bytes: the statements of docs/SCOPE.md, "Walks" and "Demand 2". Their
 -- proofs are `ranges-walk`, `locations-walk` in proofs/Theorems.antt and `ranges-bounded`, `locations-bounded` in
 -- proofs/Bounds.antt.
 use Prim.Native.Nat.{ℕ, _-_, _*_, _^_, _≤_, _<_}

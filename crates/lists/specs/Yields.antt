@@ -4,7 +4,7 @@ use mathlib.Core.List.{List, [], _∷_}
 use Rattle.bytes.specs.Read.{gives, refused}
 use Rattle.lists.specs.Walk.{item, Trace, over, handed}
 
--- a walk that comes to its end unrefused; a failed address lookup is a refusal (document 01, "Demand 3")
+-- a walk that comes to its end unrefused; a failed address lookup is a refusal (docs/SCOPE.md, "Demand 3")
 abbrev pub Unrefused : {D : Type 0} → Trace D → Type 0
 Unrefused (over w) = Unit
 Unrefused (handed (gives i) w t) = Unrefused t

@@ -1,4 +1,4 @@
--- Lookup (document 01, "Added"): the first yielded entry whose range holds an address.
+-- Lookup (docs/SCOPE.md, "Lookup"): the first yielded entry whose range holds an address.
 use Prim.Native.Nat.{ℕ}
 use mathlib.Core.Bool.{Bool, false, true, _&&_}
 use mathlib.Core.List.{List}

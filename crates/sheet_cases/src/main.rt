@@ -17,7 +17,7 @@ fn run(name: &[u8]) {
 
 fn main() {
     run(b"empty");
-    // Document 01's example of refusal 12.
+    // The example of refusal 12 in docs/SCOPE.md.
     run(b"count_alone");
     run(b"no_ranges");
     run(b"cut");

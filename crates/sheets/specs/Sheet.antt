@@ -1,4 +1,4 @@
--- A coverage's sheet, and reading it back (document 01, "Sheet" and refusal 12).
+-- A coverage's sheet, and reading it back (docs/SCOPE.md, "Sheet" and refusal 12).
 use mathlib.Core.Bool.{Bool, _&&_}
 use mathlib.Core.List.{List, [], _∷_, _++_}
 use Prim.Native.Nat.{ℕ, zero, suc, _+_, _*_}
@@ -18,11 +18,11 @@ unfoldable pub addressBytes : List ℕ → List ℕ
 addressBytes [] = []
 addressBytes (a ∷ l) = littleBytes 8 a ++ addressBytes l
 
--- count and address width in two bytes each, all begins, all ends (document 01, "Sheet")
+-- count and address width in two bytes each, all begins, all ends (docs/SCOPE.md, "Sheet")
 unfoldable pub sheetBytes : List Range → List ℕ
 sheetBytes rs = littleBytes 2 (length rs) ++ littleBytes 2 8 ++ addressBytes (begins rs) ++ addressBytes (ends rs)
 
--- the sheet of a coverage handed in; one that makes no lawful sheet is refused (document 01, "Coverage")
+-- the sheet of a coverage handed in; one that makes no lawful sheet is refused (docs/SCOPE.md, "Coverage")
 unfoldable pub sheetKept : Coverage → Result (List ℕ)
 sheetKept c = pick (lawfulSheet c) (gives (sheetBytes (rangesOf c))) (refusal BadSheet)
 
@@ -31,7 +31,7 @@ unfoldable pub addressesIn : ℕ → List ℕ → List ℕ
 addressesIn zero bs = []
 addressesIn (suc n) bs = little (take 8 bs) ∷ addressesIn n (drop 8 bs)
 
--- the count and the address width that bytes begin with (document 01, "Sheet")
+-- the count and the address width that bytes begin with (docs/SCOPE.md, "Sheet")
 abbrev pub countIn : List ℕ → ℕ
 countIn bs = little (take 2 bs)
 
@@ -42,14 +42,14 @@ widthIn bs = little (take 2 (drop 2 bs))
 abbrev pub rangesIn : ℕ → List ℕ → List Range
 rangesIn n bs = paired (addressesIn n (drop 4 bs)) (addressesIn n (drop (4 + 8 * n) bs))
 
--- how many bytes the sheet of n ranges has (document 01, refusal 12)
+-- how many bytes the sheet of n ranges has (docs/SCOPE.md, refusal 12)
 abbrev pub sheetLength : ℕ → ℕ
 sheetLength n = 4 + 16 * n
 
--- whether bytes are a sheet that counts n: its count, width and length, and its ranges (document 01, refusal 12)
+-- whether bytes are a sheet that counts n: its count, width and length, and its ranges (docs/SCOPE.md, refusal 12)
 unfoldable pub isSheet : ℕ → List ℕ → Bool
 isSheet n bs = leb n limit && eqb (widthIn bs) 8 && eqb (length bs) (sheetLength n) && lawfulFrom 0 (rangesIn n bs)
 
--- the ranges of a sheet; what is no sheet is refused (document 01, refusal 12)
+-- the ranges of a sheet; what is no sheet is refused (docs/SCOPE.md, refusal 12)
 unfoldable pub sheetRanges : List ℕ → Result (List Range)
 sheetRanges bs = pick (isSheet (countIn bs) bs) (gives (rangesIn (countIn bs) bs)) (refusal BadSheet)

@@ -24,7 +24,7 @@ ghost use Rattle.coverage.specs.Output.{output, written};
 ghost use Rattle.coverage.specs.Told.{toldWrote, toldMade, made};
 ghost use Rattle.sheets.specs.Judged.{Judged};
 
-// Whether a coverage has its sheet in an output.
+// Whether a coverage makes a lawful sheet, and an output is long enough for it.
 enum Judgement {
     BadSheet,
     NoSpace,
@@ -58,7 +58,7 @@ fn write(n: usize, begins: &[u64; LIMIT], ends: &[u64; LIMIT], out: &mut [u8])
     put_addresses(out, 4 + 8 * n, n, ends);
 }
 
-// Whether a coverage of n ranges has its sheet in so much room: 12 where it makes no lawful sheet, then 11.
+// Whether a coverage of n ranges makes a lawful sheet (else 12), and there is room for it (else 11).
 fn judge(lawful: bool, n: usize, room: usize) -> Judgement
     ensures { λ r. ⌜ Judged lawful n room r ⌝ }
 {

@@ -1,4 +1,5 @@
--- Rows of a table by base and index: the base is passed over, then index rows, and the row is read (document 01).
+-- Rows of a table by base and index: the base is passed over, then index rows, and the row is read (docs/SCOPE.md, "Headers and
+-- tables").
 use Prim.Native.Nat.{ℕ, _+_, _*_, _^_}
 use mathlib.Core.List.{List}
 use lib.Dec.{leb}

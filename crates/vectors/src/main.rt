@@ -1,4 +1,4 @@
-// Document 01's examples through the public functions of bytes, tables and entries. The file stdout has the answers, by
+// The examples of docs/SCOPE.md through the public functions of bytes, tables and entries. The file stdout has the answers, by
 // the paper.
 mod examples;
 mod nothing;

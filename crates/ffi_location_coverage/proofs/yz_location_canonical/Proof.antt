@@ -1,3 +1,4 @@
+-- `yz_location_canonical` meets its contract: by the contracts of the calls in it. Assumes nothing.
 use Rattle.ffi_words.proofs.WordLaws.{file-split}
 use Rattle.ffi_words.proofs.CoverageLaws.{output-left}
 use borrow.Author.Needs.{needs}

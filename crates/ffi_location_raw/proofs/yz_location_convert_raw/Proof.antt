@@ -1,3 +1,4 @@
+-- `yz_location_convert_raw` meets its contract: by the contracts of the calls in it. Assumes nothing.
 use borrow.Author.Needs.{needs}
 use Rattle.ffi_location_raw.proofs.yz_location_convert_raw.Statement.{statement}
 use Rattle.ffi_location_raw.proofs.yz_location_convert_raw.Tie as tie

@@ -1,3 +1,4 @@
+-- `yz_location_next_raw` meets its contract: by the contracts of the calls in it. Assumes nothing.
 use Rattle.ffi_words.proofs.WordLaws.{file-split}
 use borrow.Author.Needs.{needs}
 use Rattle.ffi_location_raw.proofs.yz_location_next_raw.Statement.{statement}

@@ -1,3 +1,4 @@
+-- `yz_location_open` meets its contract: by the contracts of the calls in it. Assumes nothing.
 use borrow.Author.Needs.{needs}
 use Rattle.ffi_location_walk.proofs.yz_location_open.Statement.{statement}
 use Rattle.ffi_location_walk.proofs.yz_location_open.Tie as tie

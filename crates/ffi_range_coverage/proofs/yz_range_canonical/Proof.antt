@@ -1,3 +1,4 @@
+-- `yz_range_canonical` meets its contract: by the contracts of the calls in it. Assumes nothing.
 use Rattle.ffi_words.proofs.CoverageLaws.{output-left}
 use borrow.Author.Needs.{needs}
 use Rattle.ffi_range_coverage.proofs.yz_range_canonical.Statement.{statement}

@@ -1,3 +1,4 @@
+-- `yz_range_lookup` meets its contract: by the contracts of the calls in it. Assumes nothing.
 use borrow.Author.Needs.{needs}
 use Rattle.ffi_range_lookup.proofs.yz_range_lookup.Statement.{statement}
 use Rattle.ffi_range_lookup.proofs.yz_range_lookup.Tie as tie

@@ -1,3 +1,4 @@
+-- `yz_range_convert_raw` meets its contract: by the contracts of the calls in it. Assumes nothing.
 use borrow.Author.Needs.{needs}
 use Rattle.ffi_range_raw.proofs.yz_range_convert_raw.Statement.{statement}
 use Rattle.ffi_range_raw.proofs.yz_range_convert_raw.Tie as tie

@@ -1,3 +1,4 @@
+-- `yz_range_next` meets its contract: by the contracts of the calls in it. Assumes nothing.
 use borrow.Author.Needs.{needs}
 use Rattle.ffi_range_walk.proofs.yz_range_next.Statement.{statement}
 use Rattle.ffi_range_walk.proofs.yz_range_next.Tie as tie

@@ -1,3 +1,4 @@
+-- `place::keep` meets its contract: case by case. Assumes nothing.
 use native.Mathlib.Omega.{arith}
 use Prim.Native.Nat.{_-_}
 use Rattle.coverage.proofs.GatherLaws.{Keeping, keeping-none, keeping-more, keeping-done}

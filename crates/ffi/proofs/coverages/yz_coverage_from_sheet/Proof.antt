@@ -1,3 +1,4 @@
+-- `coverages::yz_coverage_from_sheet` meets its contract: by the contracts of the calls in it. Assumes nothing.
 use Rattle.ffi_words.proofs.CoverageLaws.{handed-out}
 use borrow.Author.Needs.{needs}
 use Rattle.ffi.proofs.coverages.yz_coverage_from_sheet.Statement.{statement}

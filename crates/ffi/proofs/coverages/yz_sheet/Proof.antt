@@ -1,3 +1,4 @@
+-- `coverages::yz_sheet` meets its contract: by the contracts of the calls in it. Assumes nothing.
 use Rattle.ffi_words.proofs.CoverageLaws.{output-left}
 use borrow.Author.Needs.{needs}
 use Rattle.ffi.proofs.coverages.yz_sheet.Statement.{statement}

@@ -1,3 +1,4 @@
+-- `headers::yz_get_address` meets its contract: by the contracts of the calls in it. Assumes nothing.
 use borrow.Author.Needs.{needs}
 use Rattle.ffi.proofs.headers.yz_get_address.Statement.{statement}
 use Rattle.ffi.proofs.headers.yz_get_address.Tie as tie

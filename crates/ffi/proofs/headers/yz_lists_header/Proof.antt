@@ -1,3 +1,4 @@
+-- `headers::yz_lists_header` meets its contract: by the contracts of the calls in it. Assumes nothing.
 use borrow.Author.Needs.{needs}
 use Rattle.ffi.proofs.headers.yz_lists_header.Statement.{statement}
 use Rattle.ffi.proofs.headers.yz_lists_header.Tie as tie

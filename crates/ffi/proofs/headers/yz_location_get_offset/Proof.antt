@@ -1,3 +1,4 @@
+-- `headers::yz_location_get_offset` meets its contract: by the contracts of the calls in it. Assumes nothing.
 use borrow.Author.Needs.{needs}
 use Rattle.ffi.proofs.headers.yz_location_get_offset.Statement.{statement}
 use Rattle.ffi.proofs.headers.yz_location_get_offset.Tie as tie

@@ -1,3 +1,4 @@
+-- `headers::yz_range_default_base` meets its contract: by the contracts of the calls in it. Assumes nothing.
 use borrow.Author.Needs.{needs}
 use Rattle.ffi.proofs.headers.yz_range_default_base.Statement.{statement}
 use Rattle.ffi.proofs.headers.yz_range_default_base.Tie as tie

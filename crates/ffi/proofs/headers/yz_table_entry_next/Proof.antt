@@ -1,3 +1,4 @@
+-- `headers::yz_table_entry_next` meets its contract: by the contracts of the calls in it. Assumes nothing.
 use borrow.Author.Needs.{needs}
 use Rattle.ffi.proofs.headers.yz_table_entry_next.Statement.{statement}
 use Rattle.ffi.proofs.headers.yz_table_entry_next.Tie as tie

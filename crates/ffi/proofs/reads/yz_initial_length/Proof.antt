@@ -1,3 +1,4 @@
+-- `reads::yz_initial_length` meets its contract: by the contracts of the calls in it. Assumes nothing.
 use borrow.Author.Needs.{needs}
 use Rattle.ffi.proofs.reads.yz_initial_length.Statement.{statement}
 use Rattle.ffi.proofs.reads.yz_initial_length.Tie as tie

@@ -1,3 +1,4 @@
+-- `reads::yz_uleb128` meets its contract: by the contracts of the calls in it. Assumes nothing.
 use borrow.Author.Needs.{needs}
 use Rattle.ffi.proofs.reads.yz_uleb128.Statement.{statement}
 use Rattle.ffi.proofs.reads.yz_uleb128.Tie as tie

@@ -1,3 +1,4 @@
+-- `sections::yz_expression` meets its contract: by the contracts of the calls in it. Assumes nothing.
 use native.Mathlib.Omega.{arith}
 use Rattle.ffi_words.proofs.SectionLaws.{lies-in, lies-out}
 use borrow.Author.Needs.{needs}

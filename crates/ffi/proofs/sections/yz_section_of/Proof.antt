@@ -1,3 +1,4 @@
+-- `sections::yz_section_of` meets its contract: by the contracts of the calls in it. Assumes nothing.
 use Rattle.ffi_words.specs.Common.{encodingOf}
 use Rattle.ffi_words.proofs.SectionLaws.{tells-older, tells-newer}
 use Rattle.ffi.proofs.sections.yz_section_of.Statement.{statement}

@@ -1,3 +1,4 @@
+-- `common::encoding_told` meets its contract: by the contracts of the calls in it. Assumes nothing.
 use borrow.Author.Needs.{needs}
 use Rattle.ffi_words.proofs.common.encoding_told.Statement.{statement}
 use Rattle.ffi_words.proofs.common.encoding_told.Tie as tie

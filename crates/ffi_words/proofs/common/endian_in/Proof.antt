@@ -1,3 +1,4 @@
+-- `common::endian_in` meets its contract: by the contracts of the calls in it. Assumes nothing.
 use borrow.Author.Needs.{needs}
 use Rattle.ffi_words.proofs.common.endian_in.Statement.{statement}
 use Rattle.ffi_words.proofs.common.endian_in.Tie as tie

@@ -1,3 +1,4 @@
+-- `common::is_set` meets its contract: by the contracts of the calls in it. Assumes nothing.
 use borrow.Author.Tests.{eq-eqb, ne-eqb}
 use Rattle.ffi_words.proofs.common.is_set.Statement.{statement}
 use Rattle.ffi_words.proofs.common.is_set.Tie as tie

@@ -1,3 +1,4 @@
+-- `common::refused` meets its contract: by the contracts of the calls in it. Assumes nothing.
 use native.Mathlib.Omega.{arith}
 use Rattle.ffi_words.proofs.WordLaws.{number-small}
 use borrow.Author.Needs.{needs}

@@ -1,3 +1,4 @@
+-- `coverages::count_written` meets its contract: by the contracts of the calls in it. Assumes nothing.
 use borrow.Author.Needs.{needs}
 use Rattle.ffi_words.proofs.coverages.count_written.Statement.{statement}
 use Rattle.ffi_words.proofs.coverages.count_written.Tie as tie

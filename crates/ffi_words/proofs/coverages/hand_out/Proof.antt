@@ -1,3 +1,4 @@
+-- `coverages::hand_out` meets its contract: by the contracts of the calls in it. Assumes nothing.
 use borrow.Author.Needs.{needs}
 use Rattle.ffi_words.proofs.coverages.hand_out.Statement.{statement}
 use Rattle.ffi_words.proofs.coverages.hand_out.Tie as tie

@@ -1,3 +1,4 @@
+-- `headers::address_number` meets its contract: by the contracts of the calls in it. Assumes nothing.
 use borrow.Author.Needs.{needs}
 use Rattle.ffi_words.proofs.headers.address_number.Statement.{statement}
 use Rattle.ffi_words.proofs.headers.address_number.Tie as tie

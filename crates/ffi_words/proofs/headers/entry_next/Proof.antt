@@ -1,3 +1,4 @@
+-- `headers::entry_next` meets its contract: by the contracts of the calls in it. Assumes nothing.
 use borrow.Author.Needs.{needs}
 use Rattle.ffi_words.proofs.headers.entry_next.Statement.{statement}
 use Rattle.ffi_words.proofs.headers.entry_next.Tie as tie

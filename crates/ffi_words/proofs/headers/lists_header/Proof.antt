@@ -1,3 +1,4 @@
+-- `headers::lists_header` meets its contract: by the contracts of the calls in it. Assumes nothing.
 use borrow.Author.Needs.{needs}
 use Rattle.ffi_words.proofs.headers.lists_header.Statement.{statement}
 use Rattle.ffi_words.proofs.headers.lists_header.Tie as tie

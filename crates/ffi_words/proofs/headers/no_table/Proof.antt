@@ -1,3 +1,4 @@
+-- `headers::no_table` meets its contract: by the contracts of the calls in it. Assumes nothing.
 use borrow.Author.Needs.{needs}
 use Rattle.ffi_words.proofs.headers.no_table.Statement.{statement}
 use Rattle.ffi_words.proofs.headers.no_table.Tie as tie

@@ -1,3 +1,4 @@
+-- `headers::range_offset_number` meets its contract: by the contracts of the calls in it. Assumes nothing.
 use borrow.Author.Needs.{needs}
 use Rattle.ffi_words.proofs.headers.range_offset_number.Statement.{statement}
 use Rattle.ffi_words.proofs.headers.range_offset_number.Tie as tie

@@ -1,3 +1,4 @@
+-- `locations::location_next` meets its contract: by the contracts of the calls in it. Assumes nothing.
 use borrow.Author.Needs.{needs}
 use Rattle.ffi_words.proofs.locations.location_next.Statement.{statement}
 use Rattle.ffi_words.proofs.locations.location_next.Tie as tie

@@ -1,3 +1,4 @@
+-- `locations::no_location` meets its contract: by the contracts of the calls in it. Assumes nothing.
 use borrow.Author.Needs.{needs}
 use Rattle.ffi_words.proofs.locations.no_location.Statement.{statement}
 use Rattle.ffi_words.proofs.locations.no_location.Tie as tie

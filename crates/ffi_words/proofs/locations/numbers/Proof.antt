@@ -1,3 +1,4 @@
+-- `locations::numbers` meets its contract: by the contracts of the calls in it. Assumes nothing.
 use borrow.Author.Needs.{needs}
 use Rattle.ffi_words.proofs.locations.numbers.Statement.{statement}
 use Rattle.ffi_words.proofs.locations.numbers.Tie as tie

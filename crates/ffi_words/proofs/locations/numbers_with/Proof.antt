@@ -1,3 +1,4 @@
+-- `locations::numbers_with` meets its contract: by the contracts of the calls in it. Assumes nothing.
 use borrow.Author.Needs.{needs}
 use Rattle.ffi_words.proofs.locations.numbers_with.Statement.{statement}
 use Rattle.ffi_words.proofs.locations.numbers_with.Tie as tie

@@ -1,3 +1,4 @@
+-- `ranges::convert` meets its contract: by the contracts of the calls in it. Assumes nothing.
 use mathlib.Core.Path.{sym, _∙_}
 use Rattle.lists.specs.Walk.{convertedRange}
 use Rattle.ffi_words.specs.Entries.{convertRange}

@@ -1,3 +1,4 @@
+-- `ranges::entry_in` meets its contract: by the contracts of the calls in it. Assumes nothing.
 use Rattle.entries.specs.Kinds.{kindOf, rangeKinds}
 use Rattle.ffi_words.specs.Entries.{rangeIn}
 use Rattle.ffi_words.proofs.EntryLaws.{not-in}

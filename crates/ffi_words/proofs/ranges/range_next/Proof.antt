@@ -1,3 +1,4 @@
+-- `ranges::range_next` meets its contract: by the contracts of the calls in it. Assumes nothing.
 use borrow.Author.Needs.{needs}
 use Rattle.ffi_words.proofs.ranges.range_next.Statement.{statement}
 use Rattle.ffi_words.proofs.ranges.range_next.Tie as tie

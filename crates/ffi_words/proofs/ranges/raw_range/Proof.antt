@@ -1,3 +1,4 @@
+-- `ranges::raw_range` meets its contract: by the contracts of the calls in it. Assumes nothing.
 use borrow.Author.Needs.{needs}
 use Rattle.ffi_words.proofs.ranges.raw_range.Statement.{statement}
 use Rattle.ffi_words.proofs.ranges.raw_range.Tie as tie

@@ -1,3 +1,4 @@
+-- `reads::number_only` meets its contract: by the contracts of the calls in it. Assumes nothing.
 use borrow.Author.Needs.{needs}
 use Rattle.ffi_words.proofs.reads.number_only.Statement.{statement}
 use Rattle.ffi_words.proofs.reads.number_only.Tie as tie

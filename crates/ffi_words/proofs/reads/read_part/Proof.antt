@@ -1,3 +1,4 @@
+-- `reads::read_part` meets its contract: by the contracts of the calls in it. Assumes nothing.
 use borrow.Author.Needs.{needs}
 use Rattle.ffi_words.proofs.reads.read_part.Statement.{statement}
 use Rattle.ffi_words.proofs.reads.read_part.Tie as tie

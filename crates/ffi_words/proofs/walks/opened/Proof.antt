@@ -1,3 +1,4 @@
+-- `walks::opened` meets its contract: by the contracts of the calls in it. Assumes nothing.
 use borrow.Author.Needs.{needs}
 use Rattle.ffi_words.proofs.walks.opened.Statement.{statement}
 use Rattle.ffi_words.proofs.walks.opened.Tie as tie
