@@ -1,4 +1,4 @@
-//! Runs the examples of the scope and the rows of its open points through
+//! Runs the examples of docs/SCOPE.md and the open points of docs/DECISIONS.md through
 //! the oracle, and says which answers differ from the ones stated there.
 
 use oracle::oracle_api::*;

@@ -1,4 +1,4 @@
--- The worked examples of docs/SCOPE.md, its rows of refusals and the open points of docs/DECISIONS.md that compute: one table,
+-- The worked examples of docs/SCOPE.md, its examples of refusals and the open points of docs/DECISIONS.md that compute: one table,
 -- proved from the definitions.
 -- A list is shown whole: what its opening answers, then what each call of the walk hands out, with the walk after it.
 use mathlib.Core.Path.{_≡_, refl}
@@ -381,7 +381,7 @@ end-again : calls (0x00 ∷ 0x08 ∷ []) 3 (walkAt 0 0)
 unfolding calls
 end-again = refl
 
--- open point 6: in a lookup the size is refused last
+-- open point 6: in an address table the size is refused after the tests of base and index
 size-after-base : row 3 1 0 [] ≡ refused 1 []
 unfolding row
 size-after-base = refl

@@ -1,5 +1,5 @@
-// The examples of docs/SCOPE.md through the public functions of bytes, tables and entries. The file stdout has the answers, by
-// the paper.
+// The examples of docs/SCOPE.md through the public functions of bytes, tables and entries. The file stdout has the answers as that
+// page gives them.
 mod examples;
 mod nothing;
 mod rows;
