@@ -22,11 +22,11 @@ module _ (size : ℕ) where
       let s = rw e at (ones-split (64 - 8 * size) (8 * size)) in
       ap (low size) s ∙ low-part (2 ^ (64 - 8 * size) - 1) (8 * size) (ones-lt (8 * size))
 
-  pub ones-shifted : size ≤ 8 → (2 ^ 64 - 1) / 2 ^ (64 - 8 * size) ≡ ones size
+  pub ones-shifted : size < 8 → (2 ^ 63 - 1) / 2 ^ (63 - 8 * size) ≡ ones size
   ones-shifted h =
-      let e : 8 * size + (64 - 8 * size) ≡ 64 = omega arith in
-      let s = rw e at (ones-split (8 * size) (64 - 8 * size)) in
-      ap (λ (x : ℕ). x / 2 ^ (64 - 8 * size)) s ∙ high (2 ^ (8 * size) - 1) (64 - 8 * size) (ones-lt (64 - 8 * size)) ∙ sym (ones-is h)
+      let e : 8 * size + (63 - 8 * size) ≡ 63 = omega arith in
+      let s = rw e at (ones-split (8 * size) (63 - 8 * size)) in
+      ap (λ (x : ℕ). x / 2 ^ (63 - 8 * size)) s ∙ high (2 ^ (8 * size) - 1) (63 - 8 * size) (ones-lt (63 - 8 * size)) ∙ sym (ones-is (omega arith))
 
   wide-low : (x : ℕ) → 8 ≤ size → x < 2 ^ 64 → low size x ≡ x
   wide-low x h l = let p : 2 ^ 64 ≤ 2 ^ (8 * size) = pow-mono {i = 64} {j = 8 * size} (omega arith) in mod-eq-of-lt {n = x} (omega arith)

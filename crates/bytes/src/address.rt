@@ -2,17 +2,15 @@
 ghost use mathlib.Core.Path.{_≡_};
 ghost use Rattle.bytes.specs.Address.{addSized, ones, minTombstone};
 
-// The low 8 * size bits set. A size of 8 or more keeps all 64.
+// The low 8 * size bits set. A size of 8 or more keeps all 64; below it, 63 ones are shifted, so that the shift of size 0, by 63,
+// is one that there is.
 pub fn ones_sized(size: u8) -> u64
     ensures { λ r. ⌜ r ≡ ones size ⌝ }
 {
     if 8 <= size {
         return u64::MAX;
     }
-    if size == 0 {
-        return 0;
-    }
-    u64::MAX >> (64 - 8 * (size as u64))
+    0x7fff_ffff_ffff_ffff >> (63 - 8 * (size as u64))
 }
 
 // The sum modulo 2^64, of which the low 8 * size bits are kept.

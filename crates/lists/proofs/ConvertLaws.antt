@@ -23,10 +23,10 @@ use Rattle.entries.specs.declared.RawRngListEntry.the-variants.{StartLength}
 use Rattle.entries.specs.Told.{found, ended, stepOf}
 use Rattle.entries.proofs.StepLaws.{step-found, step-ended, step-failed}
 use Rattle.lists.specs.Open.{walkAt, opened, sectionFor}
-use Rattle.lists.specs.Convert.{Turn, range, skip, told, bounded, offsets, passedOf, convert}
+use Rattle.lists.specs.Convert.{Turn, range, skip, toldUnchecked, bounded, offsets, passedOf, convert}
 use Rattle.lists.specs.Walk.{Listing, onRaw, nextRaw, outcome, converted, comes}
 use Rattle.lists.specs.declared.Walk.{Walk}
-use Rattle.lists.specs.declared.convert.Converted.{Converted}
+use Rattle.lists.specs.declared.convert.Unchecked.{Unchecked}
 
 -- the tombstone bound t as the code has it
 module _ (size : ℕ) {t : ℕ} (f : t ≡ minTombstone size) where
@@ -55,8 +55,8 @@ module _ {r : AddressAnswer} {d : Result ℕ} (f : ℕ → Result Turn) (p : tol
   pub looked-up : {a : ℕ} → r ≡ address.Address a → andThen d f ≡ f a
   looked-up q = rw (← p, q)
 
-  pub lookup-refused : {e : Error} {q : Converted} → r ≡ address.Refused e → q ≡ passedOf r → told q ≡ andThen d f
-  lookup-refused h e = rw (e, ← p, h)
+  pub lookup-refused : (size : ℕ) {e : Error} {q : Unchecked} → r ≡ address.Refused e → q ≡ passedOf r → toldUnchecked size q ≡ andThen d f
+  lookup-refused size h e = rw (e, ← p, h)
 
 -- opening
 module _ (p : Encoding) (s : List ℕ) (offset base : ℕ) where

@@ -29,6 +29,8 @@ use Rattle.entries.specs.declared.RawLocListEntry.{RawLocListEntry}
 use Rattle.entries.specs.declared.RawLocListEntry.the-variants as loc
 use Rattle.lists.specs.declared.convert.Converted.{Converted}
 use Rattle.lists.specs.declared.convert.Converted.the-variants as code
+use Rattle.lists.specs.declared.convert.Unchecked.{Unchecked}
+use Rattle.lists.specs.declared.convert.Unchecked.the-variants as unchecked
 
 -- a range, another base address, or nothing
 pub data Turn : Type 0 where
@@ -53,10 +55,15 @@ abbrev pub offsets : ℕ → ℕ → ℕ → ℕ → Result Turn
 offsets size base b e =
     pick (leb (minTombstone size) base) (gives skip) (bounded size (addSized base b size) (addSized base e size))
 
+-- what the code has of an entry before its range is looked at
+abbrev pub toldUnchecked : ℕ → Unchecked → Result Turn
+toldUnchecked size (unchecked.Range b e) = bounded size b e
+toldUnchecked size (unchecked.Other r) = told r
+
 -- a refusal handed on by the code
-abbrev pub passedOf : AddressAnswer → Converted
-passedOf (address.Address a) = code.Skip
-passedOf (address.Refused e) = code.Refused e
+abbrev pub passedOf : AddressAnswer → Unchecked
+passedOf (address.Address a) = unchecked.Other code.Skip
+passedOf (address.Refused e) = unchecked.Other (code.Refused e)
 
 -- the address of an index, in the table that a list is read with
 abbrev pub tableAt : RunTimeEndian → Encoding → DebugAddrBase → List ℕ → DebugAddrIndex → Result ℕ

@@ -9,7 +9,8 @@ use entries::RawLocListEntry;
 use entries::RawRngListEntry;
 use tables::addr::AddressAnswer;
 ghost use mathlib.Core.Path.{_≡_};
-ghost use Rattle.lists.specs.Convert.{told, bounded, offsets, convert, expressionOf, passedOf, tableAt};
+ghost use Rattle.tables.specs.Addr.{addressAt};
+ghost use Rattle.lists.specs.Convert.{told, toldUnchecked, bounded, offsets, convert, expressionOf, passedOf, tableAt};
 
 // A range, another base address, nothing, or a refused lookup.
 pub enum Converted {
@@ -17,6 +18,13 @@ pub enum Converted {
     Base(u64),
     Skip,
     Refused(Error),
+}
+
+// The range of an entry before it is looked at; or what an entry comes to that has none. All ranges are then tested at one place
+// of the code, so that begin and end stay in registers.
+enum Unchecked {
+    Range(u64, u64),
+    Other(Converted),
 }
 
 // A range is skipped when its begin is at or above the tombstone bound, or not below its end.
@@ -33,24 +41,71 @@ fn checked(begin: u64, end: u64, size: u8) -> Converted
 }
 
 // An offset pair is skipped when the base is at or above the tombstone bound, even if the sum would wrap.
-fn offset_pair(begin: u64, end: u64, base_address: u64, size: u8) -> Converted
-    ensures { λ r. ⌜ told r ≡ offsets size «base_address» begin end ⌝ }
+fn offset_pair(begin: u64, end: u64, base_address: u64, size: u8) -> Unchecked
+    ensures { λ r. ⌜ toldUnchecked size r ≡ offsets size «base_address» begin end ⌝ }
 {
     let b = bytes::address::wrapping_add_sized(base_address, begin, size);
     let e = bytes::address::wrapping_add_sized(base_address, end, size);
     if bytes::address::min_tombstone(size) <= base_address {
-        return Converted::Skip;
+        return Unchecked::Other(Converted::Skip);
     }
-    checked(b, e, size)
+    Unchecked::Range(b, e)
 }
 
 // A refusal of a lookup passed on.
-fn passed(r: AddressAnswer) -> Converted
+fn passed(r: AddressAnswer) -> Unchecked
     ensures { λ q. ⌜ q ≡ passedOf r ⌝ }
 {
     match r {
-        AddressAnswer::Address(_) => Converted::Skip,
-        AddressAnswer::Refused(e) => Converted::Refused(e),
+        AddressAnswer::Address(_) => Unchecked::Other(Converted::Skip),
+        AddressAnswer::Refused(e) => Unchecked::Other(Converted::Refused(e)),
+    }
+}
+
+// The range of an entry: the refusals of the address table, the begin's first.
+fn range_of(
+    raw: RawRngListEntry,
+    debug_addr: &[u8],
+    debug_addr_base: DebugAddrBase,
+    base_address: u64,
+    size: u8,
+    endian: RunTimeEndian,
+) -> Unchecked
+    ensures { λ r. ⌜ toldUnchecked size r ≡ convert (λ i. addressAt endian size «debug_addr_base» i (now («debug_addr» .entry))) size «base_address» raw ⌝ }
+{
+    match raw {
+        RawRngListEntry::AddressOrOffsetPair(b, e) => offset_pair(b, e, base_address, size),
+        RawRngListEntry::BaseAddress(a) => Unchecked::Other(Converted::Base(a)),
+        RawRngListEntry::BaseAddressx(i) => {
+            let r = tables::addr::get_address(debug_addr, size, debug_addr_base, i, endian);
+            let AddressAnswer::Address(a) = r else {
+                return passed(r);
+            };
+            Unchecked::Other(Converted::Base(a))
+        }
+        RawRngListEntry::StartxEndx(i, j) => {
+            let r = tables::addr::get_address(debug_addr, size, debug_addr_base, i, endian);
+            let AddressAnswer::Address(b) = r else {
+                return passed(r);
+            };
+            let r1 = tables::addr::get_address(debug_addr, size, debug_addr_base, j, endian);
+            let AddressAnswer::Address(e) = r1 else {
+                return passed(r1);
+            };
+            Unchecked::Range(b, e)
+        }
+        RawRngListEntry::StartxLength(i, n) => {
+            let r = tables::addr::get_address(debug_addr, size, debug_addr_base, i, endian);
+            let AddressAnswer::Address(b) = r else {
+                return passed(r);
+            };
+            Unchecked::Range(b, bytes::address::wrapping_add_sized(b, n, size))
+        }
+        RawRngListEntry::OffsetPair(b, e) => offset_pair(b, e, base_address, size),
+        RawRngListEntry::StartEnd(b, e) => Unchecked::Range(b, e),
+        RawRngListEntry::StartLength(b, n) => {
+            Unchecked::Range(b, bytes::address::wrapping_add_sized(b, n, size))
+        }
     }
 }
 
@@ -66,39 +121,9 @@ pub fn convert_entry(
     ensures { λ r. ⌜ told r ≡ convert (tableAt endian encoding «debug_addr_base» (now («debug_addr» .entry))) (encoding .«address_size») «base_address» raw ⌝ }
 {
     let size = encoding.address_size;
-    match raw {
-        RawRngListEntry::AddressOrOffsetPair(b, e) => offset_pair(b, e, base_address, size),
-        RawRngListEntry::BaseAddress(a) => Converted::Base(a),
-        RawRngListEntry::BaseAddressx(i) => {
-            let r = tables::addr::get_address(debug_addr, size, debug_addr_base, i, endian);
-            let AddressAnswer::Address(a) = r else {
-                return passed(r);
-            };
-            Converted::Base(a)
-        }
-        RawRngListEntry::StartxEndx(i, j) => {
-            let r = tables::addr::get_address(debug_addr, size, debug_addr_base, i, endian);
-            let AddressAnswer::Address(b) = r else {
-                return passed(r);
-            };
-            let r1 = tables::addr::get_address(debug_addr, size, debug_addr_base, j, endian);
-            let AddressAnswer::Address(e) = r1 else {
-                return passed(r1);
-            };
-            checked(b, e, size)
-        }
-        RawRngListEntry::StartxLength(i, n) => {
-            let r = tables::addr::get_address(debug_addr, size, debug_addr_base, i, endian);
-            let AddressAnswer::Address(b) = r else {
-                return passed(r);
-            };
-            checked(b, bytes::address::wrapping_add_sized(b, n, size), size)
-        }
-        RawRngListEntry::OffsetPair(b, e) => offset_pair(b, e, base_address, size),
-        RawRngListEntry::StartEnd(b, e) => checked(b, e, size),
-        RawRngListEntry::StartLength(b, n) => {
-            checked(b, bytes::address::wrapping_add_sized(b, n, size), size)
-        }
+    match range_of(raw, debug_addr, debug_addr_base, base_address, size, endian) {
+        Unchecked::Range(begin, end) => checked(begin, end, size),
+        Unchecked::Other(r) => r,
     }
 }
 

@@ -1,6 +1,5 @@
 -- The base is tested; then the sums are bounds. Assumes nothing.
 use Rattle.lists.proofs.ConvertLaws.{base-skipped, base-added}
-use mathlib.Core.Path.{_∙_}
 use borrow.Author.Needs.{needs}
 use Rattle.lists.proofs.convert.offset_pair.Statement.{statement}
 use Rattle.lists.proofs.convert.offset_pair.Tie as tie
@@ -17,11 +16,9 @@ min-tombstone-requires c κs = search needs
 returns : tie.Need-returns
 returns c = base-skipped _ (c .before .min-tombstone .ensures) _ _ _ (c .if1 .taken)
 
-checked-requires : tie.Need-checked-requires
-checked-requires c κs = search needs
-
 returns-2 : tie.Need-returns-2
-returns-2 c = c .checked .ensures ∙ base-added _ (c .before .before .min-tombstone .ensures) _ _ _ (c .before .if1 .left) (c .before .before .before .before .wrapping-add-sized .ensures) (c .before .before .before .wrapping-add-sized2 .ensures)
+returns-2 c =
+    base-added _ (c .before .min-tombstone .ensures) _ _ _ (c .if1 .left) (c .before .before .before .wrapping-add-sized .ensures) (c .before .before .wrapping-add-sized2 .ensures)
 
 pub offset-pair-spec : {M : Type 1} → statement M
 offset-pair-spec =
@@ -31,5 +28,4 @@ offset-pair-spec =
     wrapping-add-sized-requires-2
     min-tombstone-requires
     returns
-    checked-requires
     returns-2)
