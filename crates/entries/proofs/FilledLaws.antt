@@ -1,7 +1,6 @@
 -- What the tables of kinds say of entries by their codes, row by row; a code that no row has; and that an entry, with what is
 -- over, tells its code and its numbers: by the rows. Assumes nothing.
 use mathlib.Core.Path.{_≡_, refl, sym, ap, _∙_}
-use mathlib.Core.Bool.{true}
 use mathlib.Core.List.{List, [], _∷_}
 use Prim.Native.Nat.{ℕ}
 use native.Mathlib.Omega.{arith}

@@ -32,8 +32,7 @@ use Rattle.entries.specs.Forms.{expression, addrIndex, indexed, operand,
 use Rattle.entries.specs.Kinds.{unknown, locationKinds, kindOf, ofKind, codedLocation, rangeEntry, locationEntry, moved}
 use Rattle.entries.specs.Told.{Step, found, ended, stepOf, toldExpression}
 use Rattle.entries.specs.Listed.{noExpression, entryIn, readIn, stepIn}
-use Rattle.entries.specs.Filled.{locatedBy}
-use Rattle.entries.specs.Heads.{locatedAs, headedIn, headed, formsIn, pairIn, bareIn, Within, refusedHead, numberPair, startxLength}
+use Rattle.entries.specs.Heads.{locatedBy, locatedAs, headedIn, headed, formsIn, pairIn, bareIn, Within, refusedHead, numberPair, startxLength}
 use Rattle.entries.proofs.KindLaws.{no-code, code-is, code-unknown, range-bare, raw-end}
 use Rattle.entries.proofs.StepLaws.{step-found}
 use Rattle.entries.proofs.MovedLaws.{moved-alike, raw-from}

@@ -1,9 +1,8 @@
 -- An entry by the code of its kind, and what fills its operands: numbers in turn, and an expression. The end mark is no entry,
 -- and its code stands for the bare pair.
 use Prim.Native.Nat.{ℕ}
-use mathlib.Core.Bool.{Bool, true, false}
 use mathlib.Core.List.{List, [], _∷_}
-use Rattle.bytes.specs.Read.{Result, gives, pick}
+use Rattle.bytes.specs.Read.{Result, gives}
 use Rattle.bytes.specs.Error.{refusal}
 use Rattle.bytes.specs.declared.error.Error.{Error}
 use Rattle.bytes.specs.declared.error.Error.the-variants.{UnknownRangeListsEntry, UnknownLocListsEntry}
@@ -55,19 +54,3 @@ rangeOf code a b =
 unfoldable pub locationOf : ℕ → ℕ → ℕ → Expression → Result (Filled RawLocListEntry)
 locationOf code a b x =
     entryBy UnknownLocListsEntry (address ∷ address ∷ expression ∷ []) loc.AddressOrOffsetPair code (kindOf locationKinds code) a b x
-
--- whether an expression is among the operands
-abbrev pub hasExpression : List Form → Bool
-hasExpression [] = false
-hasExpression (index ∷ fs) = hasExpression fs
-hasExpression (number ∷ fs) = hasExpression fs
-hasExpression (rangeLength ∷ fs) = hasExpression fs
-hasExpression (address ∷ fs) = hasExpression fs
-hasExpression (expression ∷ fs) = true
-
--- the location that a kind makes of two numbers and an expression; a kind without an expression makes none, and a start-length
--- entry stands for it
-abbrev pub locatedBy : Kind RawLocListEntry → ℕ → ℕ → Expression → RawLocListEntry
-locatedBy endOfList a b x = loc.AddressOrOffsetPair a b x
-locatedBy unknown a b x = loc.StartLength a b x
-locatedBy (kind fs e) a b x = pick (hasExpression fs) (fill fs e a b x .entry) (loc.StartLength a b x)

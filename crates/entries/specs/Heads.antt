@@ -3,16 +3,16 @@
 use Prim.Native.Nat.{ℕ, _≤_}
 use mathlib.Core.Bool.{Bool, true, false}
 use mathlib.Core.List.{List, [], _∷_}
-use Rattle.bytes.specs.Read.{gives, refused, got, Read, readThen}
+use Rattle.bytes.specs.Read.{gives, refused, got, Read, readThen, pick}
 use Rattle.bytes.specs.Error.{refusal}
 use Rattle.bytes.specs.Leb128.{unsigned}
 use Rattle.bytes.specs.declared.common.Encoding.{Encoding}
 use Rattle.bytes.specs.declared.endianity.RunTimeEndian.{RunTimeEndian}
 use Rattle.bytes.specs.declared.Num.{Num}
 use Rattle.bytes.specs.declared.Num.the-variants as num
-use Rattle.entries.specs.Forms.{Form, rangeLength, expression, addrIndex, operand, Takes, Raw, stop, entry}
-use Rattle.entries.specs.Filled.{locatedBy}
-use Rattle.entries.specs.Kinds.{bare, kindOf, locationKinds}
+use Rattle.entries.specs.Forms.{Form, index, number, rangeLength, address, expression, addrIndex, operand, Takes, Raw, stop, entry}
+use Rattle.entries.specs.Filled.{fill}
+use Rattle.entries.specs.Kinds.{Kind, endOfList, unknown, kind, kindOf, locationKinds, bare}
 use Rattle.entries.specs.Listed.{bounds, noExpression, EntryIn, entryIn}
 use Rattle.entries.specs.declared.Expression.{Expression}
 use Rattle.entries.specs.declared.RawRngListEntry.the-variants as rng
@@ -20,6 +20,22 @@ use Rattle.entries.specs.declared.RawLocListEntry.{RawLocListEntry}
 use Rattle.entries.specs.declared.RawLocListEntry.the-variants as loc
 use Rattle.entries.specs.declared.raw.Head.{Head}
 use Rattle.entries.specs.declared.raw.Head.the-variants as head
+
+-- whether an expression is among the operands
+abbrev pub hasExpression : List Form → Bool
+hasExpression [] = false
+hasExpression (index ∷ fs) = hasExpression fs
+hasExpression (number ∷ fs) = hasExpression fs
+hasExpression (rangeLength ∷ fs) = hasExpression fs
+hasExpression (address ∷ fs) = hasExpression fs
+hasExpression (expression ∷ fs) = true
+
+-- the location that a kind makes of two numbers and an expression; a kind without an expression makes none, and a start-length
+-- entry stands for it
+abbrev pub locatedBy : Kind RawLocListEntry → ℕ → ℕ → Expression → RawLocListEntry
+locatedBy endOfList a b x = loc.AddressOrOffsetPair a b x
+locatedBy unknown a b x = loc.StartLength a b x
+locatedBy (kind fs e) a b x = pick (hasExpression fs) (fill fs e a b x .entry) (loc.StartLength a b x)
 
 -- the entry of a code, two numbers and an expression; no head has a code without an expression
 unfoldable pub locatedAs : ℕ → ℕ → ℕ → Expression → RawLocListEntry
