@@ -1,16 +1,17 @@
 -- What the definitions of reading say, case by case. Callers' proofs cite these and do not open the definitions.
-use mathlib.Core.Path.{_≡_, refl, _∙_}
+use mathlib.Core.Path.{_≡_, refl, ap, _∙_}
 use mathlib.Core.Bool.{Bool, true, false, _||_}
 use mathlib.Core.List.{List, []}
 use mathlib.Core.Logic.{_⊎_, inl, inr, ⊎-elim}
 use Prim.Native.Nat.{ℕ, _+_, _-_, _≤_, _<_}
 use native.Mathlib.Omega.{arith}
-use lib.ListN.{length, take, drop}
+use lib.ListN.{length, take, drop, getD}
+use lib.Seq.{drop-cons}
 use lib.Dec.{eqb}
 use borrow.Author.Tests.{le-leb, lt-leb, le-ltb, lt-ltb, eq-eqb, ne-eqb, eqb-true}
 use Rattle.bytes.specs.Read.{Result, gives, got, Read, readThen}
 use Rattle.bytes.specs.Error.{refusal, told, toldPlace}
-use Rattle.bytes.specs.Endianity.{value}
+use Rattle.bytes.specs.Endianity.{little, value}
 use Rattle.bytes.specs.Reader.{skip, uint, split, truncate, partOf, isSize, address, addressSize, initialLength, lengthOf}
 use Rattle.bytes.specs.declared.common.Format.the-variants.{Dwarf32, Dwarf64}
 use Rattle.bytes.specs.declared.endianity.RunTimeEndian.{RunTimeEndian}
@@ -88,6 +89,13 @@ module _ (o : RunTimeEndian) (n : ℕ) (s : List ℕ) (at : ℕ) where
   pub address-other : isSize n ≡ false → address o n s at ≡ refusal (UnsupportedAddressSize n)
   unfolding address
   address-other h = simp h
+
+-- one byte is its own number
+pub byte-got : (s : List ℕ) (at : ℕ) → at < length s → uint Little 1 s at ≡ gives (got (getD s at 0) (at + 1))
+unfolding little
+byte-got s at h =
+    uint-got Little 1 s at (omega arith)
+    ∙ ap (λ (v : ℕ). gives (got v (at + 1))) (ap (λ (l : List ℕ). little (take 1 l)) (drop-cons s at 0 h) ∙ omega arith)
 
 or-cases : (a b : Bool) → (a || b) ≡ true → (a ≡ true) ⊎ (b ≡ true)
 or-cases true b e = inl refl

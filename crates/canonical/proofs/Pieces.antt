@@ -2,20 +2,20 @@
 -- Assumes nothing.
 use mathlib.Core.List.{List, [], _∷_, _++_, append-assoc}
 use mathlib.Core.Logic.{⊎-elim}
-use mathlib.Core.Path.{_≡_, refl, sym, ap, ap₂, _∙_}
-use Prim.Native.Nat.{ℕ, zero, suc, _+_, _-_, _*_, _^_, _≤_, _<_}
+use mathlib.Core.Path.{_≡_, sym, ap, ap₂, _∙_}
+use Prim.Native.Nat.{ℕ, zero, suc, _+_, _-_, _≤_, _<_}
 use native.Mathlib.Omega.{arith}
 use lib.ListN.{length, take, drop, getD, take-append-drop, length-append, length-drop, length-take, drop-of-length-le}
-use lib.Seq.{drop-cons, drop-drop, getD-drop, getD-take, take-at, drop-append-seam}
+use lib.Seq.{drop-cons, drop-drop, getD-drop, take-at, drop-append-seam}
 use Rattle.bytes.specs.Read.{got, gives, refused}
 use Rattle.bytes.specs.Endianity.{little}
-use Rattle.bytes.specs.Leb128.{unsignedFrom, unsigned}
+use Rattle.bytes.specs.Leb128.{unsigned}
 use Rattle.bytes.specs.Reader.{uint}
 use Rattle.bytes.specs.Written.{littleBytes, unsignedBytes}
 use Rattle.bytes.specs.declared.endianity.RunTimeEndian.the-variants.{Little}
 use Rattle.bytes.proofs.Order.{lt-or-le}
-use Rattle.bytes.proofs.ReaderLaws.{uint-short, uint-got}
-use Rattle.bytes.proofs.WrittenLaws.{length-little, little-back, little-written, unsigned-back, shortest, shortest-form}
+use Rattle.bytes.proofs.ReaderLaws.{uint-short, uint-got, byte-got}
+use Rattle.bytes.proofs.WrittenLaws.{length-little, little-back, little-written, unsigned-there, shortest, shortest-form}
 use Rattle.lists.specs.Walks.{InBounds}
 use Rattle.coverage.specs.Ranges.{Range}
 use Rattle.canonical.specs.Canonical.{entryBytes}
@@ -41,6 +41,19 @@ eight-written s at f h =
     let n : length (take 8 (drop at s)) ≡ 8 = omega (arith, length-take 8 (drop at s), length-drop at s) in
     ap (λ (k : ℕ). littleBytes k (little (take 8 (drop at s)))) (sym n) ∙ little-written (take 8 (drop at s)) (taken-bytes 8 (drop at s) (λ i. rw (getD-drop at s i 0) (h (at + i))))
 
+-- the first byte from a place on is read there, and what is read there is that byte
+first-read : (s : List ℕ) (at : ℕ) {b : ℕ} {l : List ℕ} → drop at s ≡ b ∷ l → uint Little 1 s at ≡ gives (got b (at + 1))
+first-read s at {b} {l} e =
+    let k : at + 0 ≡ at = omega arith in
+    let v : getD s at 0 ≡ b = ap (λ (i : ℕ). getD s i 0) (sym k) ∙ sym (getD-drop at s 0 0) ∙ ap (λ (m : List ℕ). getD m 0 0) e in
+    byte-got s at (omega (arith, ap length e, length-drop at s)) ∙ ap (λ (x : ℕ). gives (got x (at + 1))) v
+
+read-first : (s : List ℕ) (at : ℕ) {v c : ℕ} → uint Little 1 s at ≡ gives (got v c) → v ≡ getD s at 0
+read-first s at u =
+    let l : at < length s = omega (arith, uint-inside 1 s at u .0) in
+    let f = sym (byte-got s at l) ∙ u in
+    cc
+
 module _ (s : List ℕ) (at : ℕ) where
   -- the end mark as the last byte
   module _ (e : drop at s ≡ 0 ∷ []) where
@@ -48,8 +61,7 @@ module _ (s : List ℕ) (at : ℕ) where
     mark-length = omega (arith, ap length e, length-drop at s)
 
     mark-read : uint Little 1 s at ≡ gives (got 0 (at + 1))
-    unfolding little
-    mark-read = uint-got Little 1 s at (omega (arith, mark-length)) ∙ ap (λ (l : List ℕ). gives (got (little (take 1 l)) (at + 1))) e
+    mark-read = first-read s at e
 
   -- the entry of a range, whatever follows it
   module _ (r : Range) (rest : List ℕ) (small : InBounds 8 (r .0) (r .1)) (e : drop at s ≡ entryBytes r ++ rest) where
@@ -65,8 +77,7 @@ module _ (s : List ℕ) (at : ℕ) where
         omega (arith, ap length spread, length-drop at s, length-append (littleBytes 8 (r .0)) (unsignedBytes n ++ rest), length-little 8 (r .0))
 
     code-read : uint Little 1 s at ≡ gives (got 7 (at + 1))
-    unfolding little
-    code-read = uint-got Little 1 s at (omega (arith, room)) ∙ ap (λ (l : List ℕ). gives (got (little (take 1 l)) (at + 1))) spread
+    code-read = first-read s at spread
 
     after-code : drop (at + 1) s ≡ littleBytes 8 (r .0) ++ (unsignedBytes n ++ rest)
     after-code = sym (drop-drop 1 at s) ∙ ap (drop 1) spread
@@ -84,8 +95,7 @@ module _ (s : List ℕ) (at : ℕ) where
         ∙ ap (λ (k : ℕ). drop k (littleBytes 8 (r .0) ++ (unsignedBytes n ++ rest))) (sym (length-little 8 (r .0))) ∙ drop-append-seam (littleBytes 8 (r .0)) (unsignedBytes n ++ rest)
 
     length-read : unsigned s (at + 9) ≡ gives (got n (at + 9 + length (unsignedBytes n)))
-    unfolding unsigned
-    length-read = ap (λ (l : List ℕ). unsignedFrom 0 l (at + 9)) after-begin ∙ unsigned-back 0 9 n (at + 9) rest refl (omega arith)
+    length-read = unsigned-there s (at + 9) n rest (omega arith) after-begin
 
   -- where the code can't be read, or is another than theirs
   pub neither-unread : {n : ℕ} {vs : List ℕ} → uint Little 1 s at ≡ refused n vs → Neither (drop at s)
@@ -114,14 +124,12 @@ module _ (s : List ℕ) (at : ℕ) where
         record { mark = λ e. z (mark-code e .0); entry = λ r rest small e. h (entry-code r rest small e .0) }
 
     pub end-mark : code ≡ 0 → length s ≤ c → drop at s ≡ 0 ∷ []
-    unfolding little
     end-mark z h =
         let i = uint-inside 1 s at u in
         let l : at < length s = omega (arith, i .0) in
         let m : length s ≤ suc at = omega (arith, i .1) in
         let d = drop-cons s at 0 l in
-        let v : code ≡ getD s at 0 = i .2 ∙ ap (λ (l : List ℕ). little (take 1 l)) d ∙ omega arith in
-        d ∙ ap₂ _∷_ (sym v ∙ z) (drop-of-length-le s m)
+        d ∙ ap₂ _∷_ (sym (read-first s at u) ∙ z) (drop-of-length-le s m)
 
     -- where the code is theirs, a begin that can't be read, then a length
     module _ (seven : code ≡ 7) where
@@ -184,15 +192,14 @@ module _ (s : List ℕ) (at : ℕ) where
 
           -- what was read is the entry
           pub entry-is : ((i : ℕ) → getD s i 0 < 256) → length (unsignedBytes len) ≡ c2 - c1 → drop at s ≡ entryBytes (begin, begin + len) ++ drop c2 s
-          unfolding entryBytes little
+          unfolding entryBytes
           entry-is h m =
               let i = uint-inside 1 s at u in
               let j = uint-inside 8 s c b in
               let p : at < length s = omega (arith, i .0) in
               let d = drop-cons s at 0 p in
-              let v : code ≡ getD s at 0 = i .2 ∙ ap (λ (l : List ℕ). little (take 1 l)) d ∙ omega arith in
               let q : suc at ≡ c = omega (arith, i .1) in
-              let f : drop at s ≡ 7 ∷ drop c s = d ∙ ap₂ (λ (x k : ℕ). x ∷ drop k s) (sym v ∙ seven) q in
+              let f : drop at s ≡ 7 ∷ drop c s = d ∙ ap₂ (λ (x k : ℕ). x ∷ drop k s) (sym (read-first s at u) ∙ seven) q in
               let e : c + 8 ≡ c1 = sym (j .1) in
               let g : drop c s ≡ littleBytes 8 begin ++ drop c1 s =
               sym (take-append-drop 8 (drop c s))

@@ -3,6 +3,7 @@ use super::unsigned_size;
 use bytes::Num;
 use bytes::endianity::RunTimeEndian;
 use coverage::LIMIT;
+use entries::constants;
 ghost use mathlib.Core.Bool.{true};
 ghost use mathlib.Core.Logic.{_↔_};
 ghost use mathlib.Core.Path.{_≡_};
@@ -41,13 +42,13 @@ fn piece_at(bytes: &[u8], at: usize) -> Piece
     let Num::Got(code, c) = bytes::reader::read_u8(bytes, at) else {
         return Piece::Other;
     };
-    if code == 0 {
+    if code == constants::DW_RLE_end_of_list {
         if c < bytes.len() {
             return Piece::Other;
         }
         return Piece::End;
     }
-    if code != 7 {
+    if code != constants::DW_RLE_start_length {
         return Piece::Other;
     }
     let Num::Got(begin, c1) = bytes::reader::read_u64(bytes, c, RunTimeEndian::Little) else {

@@ -7,6 +7,7 @@ use bytes::put::put_u64;
 use coverage::Coverage;
 use coverage::Wrote;
 use coverage::lawful::is_lawful;
+use entries::constants;
 ghost use mathlib.Core.Path.{_≡_};
 ghost use Prim.Native.Nat.{_+_, _≤_};
 ghost use lib.ListN.{length};
@@ -87,12 +88,12 @@ fn write(n: usize, begins: &[u64], ends: &[u64], out: &mut [u8]) -> usize
     while i < n {
         let begin = begins[i];
         let end = ends[i];
-        out[at] = 7;
+        out[at] = constants::DW_RLE_start_length as u8;
         put_u64(out, at + 1, begin);
         at = put_unsigned(out, at + 9, end - begin);
         i += 1;
     }
-    out[at] = 0;
+    out[at] = constants::DW_RLE_end_of_list as u8;
     at + 1
 }
 

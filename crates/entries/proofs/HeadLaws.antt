@@ -4,7 +4,9 @@ use mathlib.Core.Bool.{Bool, true, false}
 use mathlib.Core.List.{List}
 use Prim.Native.Nat.{ℕ, _+_, _-_, _≤_, _<_}
 use native.Mathlib.Omega.{arith}
+use lib.Dec.{eqb}
 use lib.ListN.{length, take, drop}
+use borrow.Author.Tests.{ne-eqb}
 use Rattle.bytes.specs.Read.{Result, gives, refused, got, Read, readThen}
 use Rattle.bytes.specs.Error.{told, refusal}
 use Rattle.bytes.specs.Reader.{uint, address as addressAt}
@@ -17,19 +19,20 @@ use Rattle.bytes.specs.declared.error.Error.{Error}
 use Rattle.bytes.specs.declared.error.Error.the-variants.{UnknownLocListsEntry}
 use Rattle.bytes.specs.declared.Num.{Num}
 use Rattle.bytes.specs.declared.Num.the-variants as num
-use Rattle.bytes.proofs.Took.{Took}
+use Rattle.bytes.proofs.Took.{Took, pick-ind}
 use Rattle.entries.specs.declared.Expression.{Expression}
 use Rattle.entries.specs.declared.operands.ExpressionAnswer.{ExpressionAnswer}
 use Rattle.entries.specs.declared.operands.ExpressionAnswer.the-variants as parsed
 use Rattle.entries.specs.declared.RawRngListEntry.{RawRngListEntry}
 use Rattle.entries.specs.declared.RawLocListEntry.{RawLocListEntry}
+use Rattle.entries.specs.declared.RawLocListEntry.the-variants as loc
 use Rattle.entries.specs.declared.raw.Head.{Head}
 use Rattle.entries.specs.declared.raw.Head.the-variants as head
 use Rattle.entries.specs.Forms.{expression, addrIndex, indexed, operand, operands, Raw, stop, entry}
 use Rattle.entries.specs.Kinds.{unknown, locationKinds, kindOf, ofKind, codedLocation, rangeEntry, locationEntry, moved}
 use Rattle.entries.specs.Told.{Step, found, ended, stepOf, toldExpression}
 use Rattle.entries.specs.Listed.{noExpression, entryIn, readIn, stepIn}
-use Rattle.entries.specs.Heads.{locatedAs, headedIn, headed, formsIn, pairIn, bareIn, Within, refusedHead, numberPair, startxLength}
+use Rattle.entries.specs.Heads.{locatedBy, locatedAs, headedIn, headed, formsIn, pairIn, bareIn, Within, refusedHead, numberPair, startxLength}
 use Rattle.entries.proofs.KindLaws.{no-code, code-is, code-unknown, range-bare, raw-end}
 use Rattle.entries.proofs.StepLaws.{step-found}
 use Rattle.entries.proofs.MovedLaws.{moved-alike, raw-from}
@@ -49,6 +52,16 @@ index-number : {B : Type 0} (r : Read ℕ) (f : DebugAddrIndex → ℕ → Read 
 index-number (gives (got v c)) f = refl
 index-number (refused n vs) f = refl
 
+-- a code that is neither a bare pair's nor that of another kind with an expression
+pub located-else : (code a b : ℕ) (x : Expression) → (code ≡ 0 → ⊥) → (code ≡ 2 → ⊥) → (code ≡ 3 → ⊥) → (code ≡ 4 → ⊥) → (code ≡ 5 → ⊥) → (code ≡ 7 → ⊥)
+    → loc.StartLength a b x ≡ locatedAs code a b x
+unfolding locatedAs kindOf locationKinds
+located-else code a b x c0 c2 c3 c4 c5 c7 =
+    rw (ne-eqb code 0 c0, ne-eqb code 2 c2, ne-eqb code 3 c3, ne-eqb code 4 c4, ne-eqb code 5 c5, ne-eqb code 7 c7)
+    (pick-ind (λ k. loc.StartLength a b x ≡ locatedBy k a b x) (eqb code 1) (λ _. refl)
+    (λ _. pick-ind (λ k. loc.StartLength a b x ≡ locatedBy k a b x) (eqb code 6) (λ _. refl)
+    (λ _. pick-ind (λ k. loc.StartLength a b x ≡ locatedBy k a b x) (eqb code 8) (λ _. refl) (λ _. refl))))
+
 module _ (p : Encoding) (endian : RunTimeEndian) (start : ℕ) (s : List ℕ) where
   abbrev row : ℕ → ℕ → Read (Raw RawLocListEntry)
   row code at = ofKind p endian start s UnknownLocListsEntry code (kindOf locationKinds code) at
@@ -61,7 +74,7 @@ module _ (p : Encoding) (endian : RunTimeEndian) (start : ℕ) (s : List ℕ) wh
   unfolding kindOf locationKinds locatedAs
   row-2 at = index-number (unsigned s at) _ ∙ ap (readThen (unsigned s at)) (fun-ext (λ a. fun-ext (λ c. index-number (unsigned s c) _)))
 
-  row-3 : (at : ℕ) → row 3 at ≡ startxLength p endian start s at
+  row-3 : (at : ℕ) → row 3 at ≡ startxLength p endian start s 3 at
   unfolding kindOf locationKinds locatedAs
   row-3 at = index-number (unsigned s at) _
 
@@ -108,7 +121,7 @@ module _ (p : Encoding) (endian : RunTimeEndian) (start : ℕ) (s : List ℕ) wh
       pub head-2 : code ≡ 2 → codedLocation p endian start s ≡ numberPair p endian start s 2 c
       head-2 e = code-is p endian start s _ _ h 2 q e ∙ row-2 c
 
-      pub head-3 : code ≡ 3 → codedLocation p endian start s ≡ startxLength p endian start s c
+      pub head-3 : code ≡ 3 → codedLocation p endian start s ≡ startxLength p endian start s 3 c
       head-3 e = code-is p endian start s _ _ h 3 q e ∙ row-3 c
 
       pub head-4 : code ≡ 4 → codedLocation p endian start s ≡ numberPair p endian start s 4 c
@@ -131,7 +144,7 @@ module _ (p : Encoding) (endian : RunTimeEndian) (start : ℕ) (s : List ℕ) wh
 -- a bare pair that is neither the end nor a base address
 pub pair-head : (l : Bool) (p : Encoding) (endian : RunTimeEndian) (start : ℕ) (s : List ℕ) (b e c : ℕ)
     → operands p endian start s (formsIn l) (pairIn l b e) c ≡ headedIn l p endian start s (head.Bounds 0 b e c)
-unfolding locatedAs
+unfolding kindOf locationKinds locatedAs
 pair-head true p endian start s b e c = refl
 pair-head false p endian start s b e c = refl
 

@@ -1,5 +1,6 @@
 pub mod OperandLaws
 pub mod KindLaws
+pub mod FilledLaws
 pub mod EntryTook
 pub mod StepLaws
 pub mod MovedLaws

@@ -3,7 +3,6 @@
 use Prim.Native.Nat.{ℕ, _≤_}
 use mathlib.Core.Bool.{Bool, true, false}
 use mathlib.Core.List.{List, [], _∷_}
-use lib.Dec.{eqb}
 use Rattle.bytes.specs.Read.{gives, refused, got, Read, readThen, pick}
 use Rattle.bytes.specs.Error.{refusal}
 use Rattle.bytes.specs.Leb128.{unsigned}
@@ -11,8 +10,9 @@ use Rattle.bytes.specs.declared.common.Encoding.{Encoding}
 use Rattle.bytes.specs.declared.endianity.RunTimeEndian.{RunTimeEndian}
 use Rattle.bytes.specs.declared.Num.{Num}
 use Rattle.bytes.specs.declared.Num.the-variants as num
-use Rattle.entries.specs.Forms.{Form, expression, addrIndex, versionedLength, operand, Takes, Raw, stop, entry}
-use Rattle.entries.specs.Kinds.{bare}
+use Rattle.entries.specs.Forms.{Form, index, number, rangeLength, address, expression, addrIndex, operand, Takes, Raw, stop, entry}
+use Rattle.entries.specs.Filled.{fill}
+use Rattle.entries.specs.Kinds.{Kind, endOfList, unknown, kind, kindOf, locationKinds, bare}
 use Rattle.entries.specs.Listed.{bounds, noExpression, EntryIn, entryIn}
 use Rattle.entries.specs.declared.Expression.{Expression}
 use Rattle.entries.specs.declared.RawRngListEntry.the-variants as rng
@@ -21,15 +21,25 @@ use Rattle.entries.specs.declared.RawLocListEntry.the-variants as loc
 use Rattle.entries.specs.declared.raw.Head.{Head}
 use Rattle.entries.specs.declared.raw.Head.the-variants as head
 
--- the entry of a code, two numbers and an expression
+-- whether an expression is among the operands
+abbrev pub hasExpression : List Form → Bool
+hasExpression [] = false
+hasExpression (index ∷ fs) = hasExpression fs
+hasExpression (number ∷ fs) = hasExpression fs
+hasExpression (rangeLength ∷ fs) = hasExpression fs
+hasExpression (address ∷ fs) = hasExpression fs
+hasExpression (expression ∷ fs) = true
+
+-- the location that a kind makes of two numbers and an expression; a kind without an expression makes none, and a start-length
+-- entry stands for it
+abbrev pub locatedBy : Kind RawLocListEntry → ℕ → ℕ → Expression → RawLocListEntry
+locatedBy endOfList a b x = loc.AddressOrOffsetPair a b x
+locatedBy unknown a b x = loc.StartLength a b x
+locatedBy (kind fs e) a b x = pick (hasExpression fs) (fill fs e a b x .entry) (loc.StartLength a b x)
+
+-- the entry of a code, two numbers and an expression; no head has a code without an expression
 unfoldable pub locatedAs : ℕ → ℕ → ℕ → Expression → RawLocListEntry
-locatedAs code a b x =
-    pick (eqb code 0) (loc.AddressOrOffsetPair a b x)
-    (pick (eqb code 2) (loc.StartxEndx (addrIndex a) (addrIndex b) x)
-    (pick (eqb code 3) (loc.StartxLength (addrIndex a) b x)
-    (pick (eqb code 4) (loc.OffsetPair a b x)
-    (pick (eqb code 5) (loc.DefaultLocation x)
-    (pick (eqb code 7) (loc.StartEnd a b x) (loc.StartLength a b x))))))
+locatedAs code a b x = locatedBy (kindOf locationKinds code) a b x
 
 -- what two numbers after a code come to: in a location list an expression follows them
 abbrev pub followed : (l : Bool) → Encoding → RunTimeEndian → ℕ → List ℕ → ℕ → ℕ → ℕ → ℕ → Read (Raw (EntryIn l))
@@ -71,10 +81,10 @@ abbrev pub numberPair : Encoding → RunTimeEndian → ℕ → List ℕ → ℕ 
 numberPair encoding endian start s code at =
     readThen (unsigned s at) (λ a c. readThen (unsigned s c) (λ b d. headed encoding endian start s (head.Bounds code a b d)))
 
--- a LEB128 number and a length
-abbrev pub startxLength : Encoding → RunTimeEndian → ℕ → List ℕ → ℕ → Read (Raw RawLocListEntry)
-startxLength encoding endian start s at =
-    readThen (unsigned s at) (λ a c. readThen (versionedLength 4 encoding endian s c) (λ b d. headed encoding endian start s (head.Bounds 3 a b d)))
+-- a LEB128 number and a length after a code
+abbrev pub startxLength : Encoding → RunTimeEndian → ℕ → List ℕ → ℕ → ℕ → Read (Raw RawLocListEntry)
+startxLength encoding endian start s code at =
+    readThen (unsigned s at) (λ a c. readThen (operand encoding endian start s rangeLength c) (λ b d. headed encoding endian start s (head.Bounds code a b d)))
 
 -- a refusal handed on by the code; what is not refused is not handed on, and gets some other answer
 abbrev pub refusedHead : Num → Head

@@ -2,4 +2,5 @@ pub mod Forms
 pub mod Kinds
 pub mod Told
 pub mod Listed
+pub mod Filled
 pub mod Heads

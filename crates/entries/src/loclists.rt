@@ -33,8 +33,14 @@ fn number_pair(part: &[u8], at: usize, code: u64) -> Head
 }
 
 // The head of kind 3: a LEB128 number and a length.
-fn startx_length(part: &[u8], at: usize, encoding: Encoding, endian: RunTimeEndian) -> Head
-    ensures { λ r. ⌜ ((start : ℕ) → headed encoding endian start (now (part .entry)) r ≡ startxLength encoding endian start (now (part .entry)) at) ⌝ }
+fn startx_length(
+    part: &[u8],
+    at: usize,
+    code: u64,
+    encoding: Encoding,
+    endian: RunTimeEndian,
+) -> Head
+    ensures { λ r. ⌜ ((start : ℕ) → headed encoding endian start (now (part .entry)) r ≡ startxLength encoding endian start (now (part .entry)) code at) ⌝ }
 {
     let r = bytes::leb128::unsigned(part, at);
     let Num::Got(a, c) = r else {
@@ -44,7 +50,7 @@ fn startx_length(part: &[u8], at: usize, encoding: Encoding, endian: RunTimeEndi
     let Num::Got(b, c1) = r1 else {
         return passed(r1);
     };
-    Head::Bounds(constants::DW_LLE_startx_length, a, b, c1)
+    Head::Bounds(code, a, b, c1)
 }
 
 // The head of an entry by its kind. Each kind reads its own operands: where the answers of two readers meet before they
@@ -67,7 +73,13 @@ pub(crate) fn coded_head(part: &[u8], encoding: Encoding, endian: RunTimeEndian)
             Head::BaseAddressx(a, c1)
         }
         constants::DW_LLE_startx_endx => number_pair(part, c, constants::DW_LLE_startx_endx),
-        constants::DW_LLE_startx_length => startx_length(part, c, encoding, endian),
+        constants::DW_LLE_startx_length => startx_length(
+            part,
+            c,
+            constants::DW_LLE_startx_length,
+            encoding,
+            endian,
+        ),
         constants::DW_LLE_offset_pair => number_pair(part, c, constants::DW_LLE_offset_pair),
         constants::DW_LLE_default_location => Head::Bounds(
             constants::DW_LLE_default_location,

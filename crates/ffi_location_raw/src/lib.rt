@@ -9,7 +9,7 @@ ghost use mathlib.Core.Path.{_≡_};
 ghost use Rattle.lists.specs.Walk.{nextRawLocation};
 ghost use Rattle.ffi_words.specs.Common.{endianIn, encodingOf, left};
 ghost use Rattle.ffi_words.specs.Walks.{walkIn, splitIn};
-ghost use Rattle.ffi_words.specs.Entries.{RawLocationTold, convertLocation};
+ghost use Rattle.ffi_words.specs.Entries.{rawLocationTold, rawLocationNext, convertLocation};
 ghost use Rattle.ffi_words.specs.Locations.{locationOutcome};
 
 // The entry can be handed back in as it is.
@@ -19,7 +19,7 @@ pub extern "C" fn yz_location_next_raw(
     encoding: YzEncoding,
     walk: &mut WalkWords,
 ) -> YzRawLocation
-    ensures { λ r. ⌜ RawLocationTold (now (walk .entry)) (nextRawLocation (splitIn (now (walk .entry))) (encodingOf encoding) (endianIn encoding) (now (section .entry)) (walkIn (now (walk .entry)))) r (now (walk .exit)) ⌝ }
+    ensures { λ r. ⌜ left (rawLocationTold r) (now (walk .exit)) ≡ rawLocationNext (now (walk .entry)) (nextRawLocation (splitIn (now (walk .entry))) (encodingOf encoding) (endianIn encoding) (now (section .entry)) (walkIn (now (walk .entry)))) ⌝ }
 {
     let start = ffi_words::walks::walk_in(walk);
     let file = ffi_words::walks::file_in(walk);

@@ -9,7 +9,7 @@ ghost use mathlib.Core.Path.{_≡_};
 ghost use Rattle.lists.specs.Walk.{nextRawRange};
 ghost use Rattle.ffi_words.specs.Common.{endianIn, encodingOf, left};
 ghost use Rattle.ffi_words.specs.Walks.{walkIn};
-ghost use Rattle.ffi_words.specs.Entries.{RawRangeTold, convertRange};
+ghost use Rattle.ffi_words.specs.Entries.{rawRangeTold, rawRangeNext, convertRange};
 ghost use Rattle.ffi_words.specs.Ranges.{rangeOutcome};
 
 // The entry can be handed back in as it is.
@@ -19,7 +19,7 @@ pub extern "C" fn yz_range_next_raw(
     encoding: YzEncoding,
     walk: &mut WalkWords,
 ) -> YzRawRange
-    ensures { λ r. ⌜ RawRangeTold (now (walk .entry)) (nextRawRange (encodingOf encoding) (endianIn encoding) (now (section .entry)) (walkIn (now (walk .entry)))) r (now (walk .exit)) ⌝ }
+    ensures { λ r. ⌜ left (rawRangeTold r) (now (walk .exit)) ≡ rawRangeNext (now (walk .entry)) (nextRawRange (encodingOf encoding) (endianIn encoding) (now (section .entry)) (walkIn (now (walk .entry)))) ⌝ }
 {
     let start = ffi_words::walks::walk_in(walk);
     let unit = ffi_words::common::encoding_of(encoding);

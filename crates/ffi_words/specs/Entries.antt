@@ -1,29 +1,23 @@
--- Raw entries as numbers: the code of the kind, by the tables of kinds, and what fills its operands. The end mark is no entry,
--- and its code stands for the bare pair.
+-- Raw entries as numbers: the code of the kind, by the tables of kinds, and what fills its operands; what calls over raw entries
+-- tell.
 use Prim.Native.Nat.{ℕ}
-use mathlib.Core.List.{List, [], _∷_}
-use mathlib.Core.Path.{_≡_}
+use mathlib.Core.List.{List}
 use Rattle.bytes.specs.Read.{Result, gives, refused, pick}
 use Rattle.bytes.specs.Error.{number, values, refusal}
 use Rattle.bytes.specs.Reader.{isSize}
 use Rattle.bytes.specs.declared.common.DebugAddrBase.{DebugAddrBase}
 use Rattle.bytes.specs.declared.common.Encoding.{Encoding}
 use Rattle.bytes.specs.declared.endianity.RunTimeEndian.{RunTimeEndian}
-use Rattle.bytes.specs.declared.error.Error.{Error}
-use Rattle.bytes.specs.declared.error.Error.the-variants.{UnknownRangeListsEntry, UnknownLocListsEntry, UnsupportedAddressSize}
-use Rattle.tables.specs.Next.{Next, ends, hands}
-use Rattle.entries.specs.Forms.{Form, index, number as leb128, rangeLength, address, expression, Takes, addrIndex}
-use Rattle.entries.specs.Kinds.{Kind, endOfList, unknown, kind, kindOf, rangeKinds, locationKinds}
-use Rattle.entries.specs.Listed.{noExpression}
+use Rattle.bytes.specs.declared.error.Error.the-variants.{UnsupportedAddressSize}
+use Rattle.tables.specs.Next.{Next}
+use Rattle.entries.specs.Filled.{Filled, whole, rangeOf, locationOf}
 use Rattle.entries.specs.declared.Expression.{Expression}
 use Rattle.entries.specs.declared.RawRngListEntry.{RawRngListEntry}
-use Rattle.entries.specs.declared.RawRngListEntry.the-variants as rng
 use Rattle.entries.specs.declared.RawLocListEntry.{RawLocListEntry}
-use Rattle.entries.specs.declared.RawLocListEntry.the-variants as loc
 use Rattle.lists.specs.Walk.{Outcome, convertedRange, convertedLocation, comes}
 use Rattle.lists.specs.declared.Walk.{Walk}
-use Rattle.ffi_words.specs.Common.{part, noPart, done, ended, refusedBy, Left, left}
-use Rattle.ffi_words.specs.Walks.{handedBack}
+use Rattle.ffi_words.specs.Common.{part, noPart, done, Left}
+use Rattle.ffi_words.specs.Items.{nextTold}
 use Rattle.ffi_words.specs.declared.common.YzDone.{YzDone}
 use Rattle.ffi_words.specs.declared.common.YzPart.{YzPart}
 use Rattle.ffi_words.specs.declared.ranges.RangeTaken.{RangeTaken}
@@ -35,41 +29,9 @@ use Rattle.ffi_words.specs.declared.locations.LocationTaken.the-variants
 use Rattle.ffi_words.specs.declared.locations.YzLocationEntry.{YzLocationEntry}
 use Rattle.ffi_words.specs.declared.locations.YzRawLocation.{YzRawLocation}
 
--- an entry, and what of its numbers and its expression it has no operand for
-pub record Filled (E : Type 0) : Type 0 where
-  pub entry : E
-  pub first : ℕ
-  pub second : ℕ
-  pub over : Expression
-
-abbrev pub filled : {E : Type 0} → E → ℕ → ℕ → Expression → Filled E
-filled e a b x = record { entry = e; first = a; second = b; over = x }
-
--- an entry with nothing over
-abbrev pub whole : {E : Type 0} → E → Filled E
-whole e = filled e 0 0 noExpression
-
--- operands are filled from the numbers in turn, and from the expression
-abbrev pub fill : {E : Type 0} → (fs : List Form) → Takes fs E → ℕ → ℕ → Expression → Filled E
-fill [] e a b x = filled e a b x
-fill (index ∷ fs) e a b x = fill fs (e (addrIndex a)) b 0 x
-fill (leb128 ∷ fs) e a b x = fill fs (e a) b 0 x
-fill (rangeLength ∷ fs) e a b x = fill fs (e a) b 0 x
-fill (address ∷ fs) e a b x = fill fs (e a) b 0 x
-fill (expression ∷ fs) e a b x = fill fs (e x) a b noExpression
-
--- a code without a kind is refused, with the code
-abbrev pub entryBy : {E : Type 0} → (ℕ → Error) → (fs : List Form) → Takes fs E → ℕ → Kind E → ℕ → ℕ → Expression
-    → Result (Filled E)
-entryBy unknownEntry fs pair code endOfList a b x = gives (fill fs pair a b x)
-entryBy unknownEntry fs pair code unknown a b x = refusal (unknownEntry code)
-entryBy unknownEntry fs pair code (kind gs e) a b x = gives (fill gs e a b x)
-
 -- the entries that numbers are
-unfoldable pub rangeIn : YzRangeEntry → Result (Filled RawRngListEntry)
-rangeIn t =
-    entryBy UnknownRangeListsEntry (address ∷ address ∷ []) rng.AddressOrOffsetPair (t .kind)
-    (kindOf rangeKinds (t .kind)) (t .first) (t .second) noExpression
+abbrev pub rangeIn : YzRangeEntry → Result (Filled RawRngListEntry)
+rangeIn t = rangeOf (t .kind) (t .first) (t .second)
 
 abbrev pub expressionIn : YzPart → Expression
 expressionIn x = record { offset = x .offset; len = x .length }
@@ -77,10 +39,8 @@ expressionIn x = record { offset = x .offset; len = x .length }
 abbrev pub expressionTold : Expression → YzPart
 expressionTold x = part (x .offset) (x .len)
 
-unfoldable pub locationIn : YzLocationEntry → Result (Filled RawLocListEntry)
-locationIn t =
-    entryBy UnknownLocListsEntry (address ∷ address ∷ expression ∷ []) loc.AddressOrOffsetPair (t .kind)
-    (kindOf locationKinds (t .kind)) (t .first) (t .second) (expressionIn (t .expression))
+abbrev pub locationIn : YzLocationEntry → Result (Filled RawLocListEntry)
+locationIn t = locationOf (t .kind) (t .first) (t .second) (expressionIn (t .expression))
 
 abbrev pub noRangeEntry : YzRangeEntry
 noRangeEntry = record { kind = 0; first = 0; second = 0 }
@@ -88,18 +48,31 @@ noRangeEntry = record { kind = 0; first = 0; second = 0 }
 abbrev pub noLocationEntry : YzLocationEntry
 noLocationEntry = record { kind = 0; first = 0; second = 0; expression = noPart }
 
--- what a raw call tells, beside what it leaves: an entry so that, handed back in, it is the same and nothing is over; without an
--- entry, every number is 0
-abbrev pub RawTold : {T E : Type 0} → (T → Result (Filled E)) → T → List ℕ → Next E Walk → Left YzDone → T → Type 0
-RawTold handedIn none ws (hands (gives e) w) l t = (l ≡ left done (handedBack ws w)) × (handedIn t ≡ gives (whole e))
-RawTold handedIn none ws (ends w) l t = (l ≡ left ended (handedBack ws w)) × (t ≡ none)
-RawTold handedIn none ws (hands (refused n vs) w) l t = (l ≡ left (refusedBy n vs) (handedBack ws w)) × (t ≡ none)
+-- what a raw call tells: what was done, and the entry that its numbers are. No others are that entry (`range-numbers-once`,
+-- `location-numbers-once`, proofs/EntryLaws.antt)
+pub record RawTold (E : Type 0) : Type 0 where
+  pub done : YzDone
+  pub entry : Result (Filled E)
 
-abbrev pub RawRangeTold : List ℕ → Next RawRngListEntry Walk → YzRawRange → List ℕ → Type 0
-RawRangeTold ws n r vs = RawTold rangeIn noRangeEntry ws n (left (r .done) vs) (r .entry)
+abbrev pub withEntry : {E : Type 0} → YzDone → Result (Filled E) → RawTold E
+withEntry d e = record { done = d; entry = e }
 
-abbrev pub RawLocationTold : List ℕ → Next RawLocListEntry Walk → YzRawLocation → List ℕ → Type 0
-RawLocationTold ws n r vs = RawTold locationIn noLocationEntry ws n (left (r .done) vs) (r .entry)
+abbrev pub rawRangeTold : YzRawRange → RawTold RawRngListEntry
+rawRangeTold r = withEntry (r .done) (rangeIn (r .entry))
+
+abbrev pub rawLocationTold : YzRawLocation → RawTold RawLocListEntry
+rawLocationTold r = withEntry (r .done) (locationIn (r .entry))
+
+-- an entry is told so that, handed back in, it is the same and nothing is over; without one, what is told is that of no entry
+abbrev pub rawNext : {E : Type 0} → Result (Filled E) → List ℕ → Next E Walk → Left (RawTold E)
+rawNext none ws n = nextTold (λ e. withEntry done (gives (whole e))) (λ d. withEntry d none) ws n
+
+-- with no entry every number is 0
+abbrev pub rawRangeNext : List ℕ → Next RawRngListEntry Walk → Left (RawTold RawRngListEntry)
+rawRangeNext ws n = rawNext (rangeIn noRangeEntry) ws n
+
+abbrev pub rawLocationNext : List ℕ → Next RawLocListEntry Walk → Left (RawTold RawLocListEntry)
+rawLocationNext ws n = rawNext (locationIn noLocationEntry) ws n
 
 -- whatever is over
 abbrev pub entryOnly : {E : Type 0} → Result (Filled E) → Result E

@@ -10,8 +10,8 @@ use Rattle.ffi_words.specs.Common.{ended, nothing, notThere, refusedBy, 
 use Rattle.ffi_words.specs.Walks.{handedBack}
 use Rattle.ffi_words.specs.declared.common.YzDone.{YzDone}
 
-abbrev pub nextTold : {D A : Type 0} → (Item D → A) → (YzDone → A) → List ℕ → Next (Item D) Walk → Left A
-nextTold told without ws (hands (gives i) w) = left (told i) (handedBack ws w)
+abbrev pub nextTold : {E A : Type 0} → (E → A) → (YzDone → A) → List ℕ → Next E Walk → Left A
+nextTold told without ws (hands (gives e) w) = left (told e) (handedBack ws w)
 nextTold told without ws (ends w) = left (without ended) (handedBack ws w)
 nextTold told without ws (hands (refused n vs) w) = left (without (refusedBy n vs)) (handedBack ws w)
 

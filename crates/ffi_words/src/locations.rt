@@ -13,6 +13,7 @@ use bytes::endianity::RunTimeEndian;
 use bytes::error::Error;
 use entries::Expression;
 use entries::RawLocListEntry;
+use entries::constants;
 use lists::LocationListEntry;
 use lists::Walk;
 use lists::loclists::LocationAnswer;
@@ -21,10 +22,11 @@ use lists::loclists::RawLocationAnswer;
 use lookups::LocationFound;
 ghost use mathlib.Core.Path.{_≡_};
 ghost use Rattle.bytes.specs.Read.{gives};
+ghost use Rattle.entries.specs.Filled.{whole};
 ghost use Rattle.lists.specs.Walk.{item, toldNextLocation, toldRawLocation, toldConvertedLocation};
 ghost use Rattle.lookups.specs.Lookup.{toldLocation};
 ghost use Rattle.ffi_words.specs.Common.{left, noPart};
-ghost use Rattle.ffi_words.specs.Entries.{whole, expressionIn, expressionTold, toldLocationTaken, entryOnly, locationIn, RawLocationTold, convertLocation};
+ghost use Rattle.ffi_words.specs.Entries.{expressionIn, expressionTold, toldLocationTaken, entryOnly, locationIn, rawLocationTold, rawLocationNext, convertLocation};
 ghost use Rattle.ffi_words.specs.Locations.{locationTold, noLocation, locationNext, locationOutcome, locationFound};
 
 #[repr(C)]
@@ -138,20 +140,63 @@ fn entry_out(raw: RawLocListEntry) -> YzLocationEntry
     ensures { λ r. ⌜ locationIn r ≡ gives (whole raw) ⌝ }
 {
     match raw {
-        RawLocListEntry::AddressOrOffsetPair(begin, end, x) => numbers_with(0, begin, end, x),
-        RawLocListEntry::BaseAddressx(index) => numbers(1, index.0, 0),
-        RawLocListEntry::StartxEndx(begin, end, x) => numbers_with(2, begin.0, end.0, x),
-        RawLocListEntry::StartxLength(begin, length, x) => numbers_with(3, begin.0, length, x),
-        RawLocListEntry::OffsetPair(begin, end, x) => numbers_with(4, begin, end, x),
-        RawLocListEntry::DefaultLocation(x) => numbers_with(5, 0, 0, x),
-        RawLocListEntry::BaseAddress(address) => numbers(6, address, 0),
-        RawLocListEntry::StartEnd(begin, end, x) => numbers_with(7, begin, end, x),
-        RawLocListEntry::StartLength(begin, length, x) => numbers_with(8, begin, length, x),
+        RawLocListEntry::AddressOrOffsetPair(begin, end, x) => numbers_with(
+            constants::ADDRESS_OR_OFFSET_PAIR,
+            begin,
+            end,
+            x,
+        ),
+        RawLocListEntry::BaseAddressx(index) => numbers(
+            constants::DW_LLE_base_addressx,
+            index.0,
+            0,
+        ),
+        RawLocListEntry::StartxEndx(begin, end, x) => numbers_with(
+            constants::DW_LLE_startx_endx,
+            begin.0,
+            end.0,
+            x,
+        ),
+        RawLocListEntry::StartxLength(begin, length, x) => numbers_with(
+            constants::DW_LLE_startx_length,
+            begin.0,
+            length,
+            x,
+        ),
+        RawLocListEntry::OffsetPair(begin, end, x) => numbers_with(
+            constants::DW_LLE_offset_pair,
+            begin,
+            end,
+            x,
+        ),
+        RawLocListEntry::DefaultLocation(x) => numbers_with(
+            constants::DW_LLE_default_location,
+            0,
+            0,
+            x,
+        ),
+        RawLocListEntry::BaseAddress(address) => numbers(
+            constants::DW_LLE_base_address,
+            address,
+            0,
+        ),
+        RawLocListEntry::StartEnd(begin, end, x) => numbers_with(
+            constants::DW_LLE_start_end,
+            begin,
+            end,
+            x,
+        ),
+        RawLocListEntry::StartLength(begin, length, x) => numbers_with(
+            constants::DW_LLE_start_length,
+            begin,
+            length,
+            x,
+        ),
     }
 }
 
 pub fn raw_location(r: RawLocationAnswer, words: &mut WalkWords) -> YzRawLocation
-    ensures { λ a. ⌜ RawLocationTold (now (words .entry)) (toldRawLocation r) a (now (words .exit)) ⌝ }
+    ensures { λ a. ⌜ left (rawLocationTold a) (now (words .exit)) ≡ rawLocationNext (now (words .entry)) (toldRawLocation r) ⌝ }
 {
     match r {
         RawLocationAnswer::Entry(raw, walk) => {
@@ -202,19 +247,39 @@ pub fn entry_in(entry: YzLocationEntry) -> LocationTaken
     let part = entry.expression;
     let x = expression_in(part);
     match code {
-        0 => LocationTaken::Entry(RawLocListEntry::AddressOrOffsetPair(first, second, x)),
-        1 => LocationTaken::Entry(RawLocListEntry::BaseAddressx(DebugAddrIndex(first))),
-        2 => LocationTaken::Entry(RawLocListEntry::StartxEndx(
+        constants::ADDRESS_OR_OFFSET_PAIR =>
+            LocationTaken::Entry(RawLocListEntry::AddressOrOffsetPair(first, second, x)),
+        constants::DW_LLE_base_addressx =>
+            LocationTaken::Entry(RawLocListEntry::BaseAddressx(DebugAddrIndex(first))),
+        constants::DW_LLE_startx_endx => LocationTaken::Entry(RawLocListEntry::StartxEndx(
             DebugAddrIndex(first),
             DebugAddrIndex(second),
             x,
         )),
-        3 => LocationTaken::Entry(RawLocListEntry::StartxLength(DebugAddrIndex(first), second, x)),
-        4 => LocationTaken::Entry(RawLocListEntry::OffsetPair(first, second, x)),
-        5 => LocationTaken::Entry(RawLocListEntry::DefaultLocation(x)),
-        6 => LocationTaken::Entry(RawLocListEntry::BaseAddress(first)),
-        7 => LocationTaken::Entry(RawLocListEntry::StartEnd(first, second, x)),
-        8 => LocationTaken::Entry(RawLocListEntry::StartLength(first, second, x)),
+        constants::DW_LLE_startx_length => LocationTaken::Entry(RawLocListEntry::StartxLength(
+            DebugAddrIndex(first),
+            second,
+            x,
+        )),
+        constants::DW_LLE_offset_pair => LocationTaken::Entry(RawLocListEntry::OffsetPair(
+            first,
+            second,
+            x,
+        )),
+        constants::DW_LLE_default_location => LocationTaken::Entry(RawLocListEntry::DefaultLocation(
+            x,
+        )),
+        constants::DW_LLE_base_address => LocationTaken::Entry(RawLocListEntry::BaseAddress(first)),
+        constants::DW_LLE_start_end => LocationTaken::Entry(RawLocListEntry::StartEnd(
+            first,
+            second,
+            x,
+        )),
+        constants::DW_LLE_start_length => LocationTaken::Entry(RawLocListEntry::StartLength(
+            first,
+            second,
+            x,
+        )),
         _ => LocationTaken::Refused(Error::UnknownLocListsEntry(code)),
     }
 }

@@ -11,6 +11,7 @@ use bytes::common::Encoding;
 use bytes::endianity::RunTimeEndian;
 use bytes::error::Error;
 use entries::RawRngListEntry;
+use entries::constants;
 use lists::Range;
 use lists::Walk;
 use lists::rnglists::RangeAnswer;
@@ -19,10 +20,11 @@ use lists::rnglists::RawRangeAnswer;
 use lookups::RangeFound;
 ghost use mathlib.Core.Path.{_≡_};
 ghost use Rattle.bytes.specs.Read.{gives};
+ghost use Rattle.entries.specs.Filled.{whole};
 ghost use Rattle.lists.specs.Walk.{item, toldNextRange, toldRawRange, toldConvertedRange};
 ghost use Rattle.lookups.specs.Lookup.{toldRange};
 ghost use Rattle.ffi_words.specs.Common.{left};
-ghost use Rattle.ffi_words.specs.Entries.{whole, toldRangeTaken, entryOnly, rangeIn, RawRangeTold, convertRange};
+ghost use Rattle.ffi_words.specs.Entries.{toldRangeTaken, entryOnly, rangeIn, rawRangeTold, rawRangeNext, convertRange};
 ghost use Rattle.ffi_words.specs.Ranges.{rangeTold, noRange, rangeNext, rangeOutcome, rangeFound};
 
 #[repr(C)]
@@ -109,19 +111,47 @@ fn entry_out(raw: RawRngListEntry) -> YzRangeEntry
     ensures { λ r. ⌜ rangeIn r ≡ gives (whole raw) ⌝ }
 {
     match raw {
-        RawRngListEntry::AddressOrOffsetPair(begin, end) => numbers(0, begin, end),
-        RawRngListEntry::BaseAddressx(index) => numbers(1, index.0, 0),
-        RawRngListEntry::StartxEndx(begin, end) => numbers(2, begin.0, end.0),
-        RawRngListEntry::StartxLength(begin, length) => numbers(3, begin.0, length),
-        RawRngListEntry::OffsetPair(begin, end) => numbers(4, begin, end),
-        RawRngListEntry::BaseAddress(address) => numbers(5, address, 0),
-        RawRngListEntry::StartEnd(begin, end) => numbers(6, begin, end),
-        RawRngListEntry::StartLength(begin, length) => numbers(7, begin, length),
+        RawRngListEntry::AddressOrOffsetPair(begin, end) => numbers(
+            constants::ADDRESS_OR_OFFSET_PAIR,
+            begin,
+            end,
+        ),
+        RawRngListEntry::BaseAddressx(index) => numbers(
+            constants::DW_RLE_base_addressx,
+            index.0,
+            0,
+        ),
+        RawRngListEntry::StartxEndx(begin, end) => numbers(
+            constants::DW_RLE_startx_endx,
+            begin.0,
+            end.0,
+        ),
+        RawRngListEntry::StartxLength(begin, length) => numbers(
+            constants::DW_RLE_startx_length,
+            begin.0,
+            length,
+        ),
+        RawRngListEntry::OffsetPair(begin, end) => numbers(
+            constants::DW_RLE_offset_pair,
+            begin,
+            end,
+        ),
+        RawRngListEntry::BaseAddress(address) => numbers(
+            constants::DW_RLE_base_address,
+            address,
+            0,
+        ),
+        RawRngListEntry::StartEnd(begin, end) => numbers(constants::DW_RLE_start_end, begin, end),
+        RawRngListEntry::StartLength(begin, length) => numbers(
+            constants::DW_RLE_start_length,
+            begin,
+            length,
+        ),
     }
 }
 
 pub fn raw_range(r: RawRangeAnswer, words: &mut WalkWords) -> YzRawRange
-    ensures { λ a. ⌜ RawRangeTold (now (words .entry)) (toldRawRange r) a (now (words .exit)) ⌝ }
+    ensures { λ a. ⌜ left (rawRangeTold a) (now (words .exit)) ≡ rawRangeNext (now (words .entry)) (toldRawRange r) ⌝ }
 {
     match r {
         RawRangeAnswer::Entry(raw, walk) => {
@@ -161,17 +191,30 @@ pub fn entry_in(entry: YzRangeEntry) -> RangeTaken
     let first = entry.first;
     let second = entry.second;
     match code {
-        0 => RangeTaken::Entry(RawRngListEntry::AddressOrOffsetPair(first, second)),
-        1 => RangeTaken::Entry(RawRngListEntry::BaseAddressx(DebugAddrIndex(first))),
-        2 => RangeTaken::Entry(RawRngListEntry::StartxEndx(
+        constants::ADDRESS_OR_OFFSET_PAIR => RangeTaken::Entry(RawRngListEntry::AddressOrOffsetPair(
+            first,
+            second,
+        )),
+        constants::DW_RLE_base_addressx =>
+            RangeTaken::Entry(RawRngListEntry::BaseAddressx(DebugAddrIndex(first))),
+        constants::DW_RLE_startx_endx => RangeTaken::Entry(RawRngListEntry::StartxEndx(
             DebugAddrIndex(first),
             DebugAddrIndex(second),
         )),
-        3 => RangeTaken::Entry(RawRngListEntry::StartxLength(DebugAddrIndex(first), second)),
-        4 => RangeTaken::Entry(RawRngListEntry::OffsetPair(first, second)),
-        5 => RangeTaken::Entry(RawRngListEntry::BaseAddress(first)),
-        6 => RangeTaken::Entry(RawRngListEntry::StartEnd(first, second)),
-        7 => RangeTaken::Entry(RawRngListEntry::StartLength(first, second)),
+        constants::DW_RLE_startx_length => RangeTaken::Entry(RawRngListEntry::StartxLength(
+            DebugAddrIndex(first),
+            second,
+        )),
+        constants::DW_RLE_offset_pair => RangeTaken::Entry(RawRngListEntry::OffsetPair(
+            first,
+            second,
+        )),
+        constants::DW_RLE_base_address => RangeTaken::Entry(RawRngListEntry::BaseAddress(first)),
+        constants::DW_RLE_start_end => RangeTaken::Entry(RawRngListEntry::StartEnd(first, second)),
+        constants::DW_RLE_start_length => RangeTaken::Entry(RawRngListEntry::StartLength(
+            first,
+            second,
+        )),
         _ => RangeTaken::Refused(Error::UnknownRangeListsEntry(code)),
     }
 }

@@ -28,6 +28,9 @@ mul-end c = omega arith
 shared-slice-read-end : tie.Need-shared-slice-read-end Inv-loop μ-loop
 shared-slice-read-end c = omega arith
 
+cast-out : tie.Need-cast-out Inv-loop μ-loop
+cast-out c = omega arith
+
 slice-write-out : tie.Need-slice-write-out Inv-loop μ-loop
 slice-write-out c = writing-here (c .before .before .before .loop .inv)
 
@@ -63,6 +66,9 @@ loop-again c =
     writing-step t (w .loop-test .taken) (writing-begin t (w .loop-test .taken) (c .before .before .before .before .before .before .put-u64 .ensures))
     (c .before .before .put-unsigned .ensures .0) (c .before .before .put-unsigned .ensures .1)
 
+cast-out-2 : tie.Need-cast-out-2 Inv-loop μ-loop
+cast-out-2 c = omega arith
+
 slice-write-out-2 : tie.Need-slice-write-out-2 Inv-loop μ-loop
 slice-write-out-2 c = writing-here (c .before .loop .inv)
 
@@ -86,6 +92,7 @@ write-spec =
     shared-slice-read-begin
     mul-end
     shared-slice-read-end
+    cast-out
     slice-write-out
     add-put-u64
     put-u64-requires
@@ -95,6 +102,7 @@ write-spec =
     add-i
     loop-less
     loop-again
+    cast-out-2
     slice-write-out-2
     add-result
     same-length

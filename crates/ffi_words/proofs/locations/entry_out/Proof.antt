@@ -1,6 +1,5 @@
--- `locations::entry_out` meets its contract: by the contracts of the calls in it. Assumes nothing.
-use Rattle.entries.specs.Kinds.{kindOf, locationKinds}
-use Rattle.ffi_words.specs.Entries.{locationIn}
+-- `locations::entry_out` meets its contract: by the row of each kind. Assumes nothing.
+use Rattle.entries.proofs.FilledLaws.{locations-of}
 use borrow.Author.Needs.{needs}
 use Rattle.ffi_words.proofs.locations.entry_out.Statement.{statement}
 use Rattle.ffi_words.proofs.locations.entry_out.Tie as tie
@@ -60,40 +59,31 @@ numbers-with-requires-7 : tie.Need-numbers-with-requires-7
 numbers-with-requires-7 c κs = search needs
 
 returns : tie.Need-returns
-unfolding locationIn kindOf locationKinds
-returns c = rw (c .before .before .raw .given .1, c .numbers-with .ensures)
+returns c = rw (c .before .before .raw .given .1, c .numbers-with .ensures) (locations-of _ _ _ .pair)
 
 returns-2 : tie.Need-returns-2
-unfolding locationIn kindOf locationKinds
-returns-2 c = rw (c .before .before .raw2 .given .1, c .numbers .ensures)
+returns-2 c = rw (c .before .before .raw2 .given .1, c .numbers .ensures) (locations-of _ _ _ .base-addressx)
 
 returns-3 : tie.Need-returns-3
-unfolding locationIn kindOf locationKinds
-returns-3 c = rw (c .before .before .raw3 .given .1, c .numbers-with2 .ensures)
+returns-3 c = rw (c .before .before .raw3 .given .1, c .numbers-with2 .ensures) (locations-of _ _ _ .startx-endx)
 
 returns-4 : tie.Need-returns-4
-unfolding locationIn kindOf locationKinds
-returns-4 c = rw (c .before .before .raw4 .given .1, c .numbers-with3 .ensures)
+returns-4 c = rw (c .before .before .raw4 .given .1, c .numbers-with3 .ensures) (locations-of _ _ _ .startx-length)
 
 returns-5 : tie.Need-returns-5
-unfolding locationIn kindOf locationKinds
-returns-5 c = rw (c .before .before .raw5 .given .1, c .numbers-with4 .ensures)
+returns-5 c = rw (c .before .before .raw5 .given .1, c .numbers-with4 .ensures) (locations-of _ _ _ .offset-pair)
 
 returns-6 : tie.Need-returns-6
-unfolding locationIn kindOf locationKinds
-returns-6 c = rw (c .before .before .raw6 .given .1, c .numbers-with5 .ensures)
+returns-6 c = rw (c .before .before .raw6 .given .1, c .numbers-with5 .ensures) (locations-of _ _ _ .default-location)
 
 returns-7 : tie.Need-returns-7
-unfolding locationIn kindOf locationKinds
-returns-7 c = rw (c .before .before .raw7 .given .1, c .numbers2 .ensures)
+returns-7 c = rw (c .before .before .raw7 .given .1, c .numbers2 .ensures) (locations-of _ _ _ .base-address)
 
 returns-8 : tie.Need-returns-8
-unfolding locationIn kindOf locationKinds
-returns-8 c = rw (c .before .before .raw8 .given .1, c .numbers-with6 .ensures)
+returns-8 c = rw (c .before .before .raw8 .given .1, c .numbers-with6 .ensures) (locations-of _ _ _ .start-end)
 
 returns-9 : tie.Need-returns-9
-unfolding locationIn kindOf locationKinds
-returns-9 c = rw (c .before .before .raw9 .given .1, c .numbers-with7 .ensures)
+returns-9 c = rw (c .before .before .raw9 .given .1, c .numbers-with7 .ensures) (locations-of _ _ _ .start-length)
 
 pub entry-out-spec : {M : Type 1} → statement M
 entry-out-spec =

@@ -40,13 +40,13 @@ numbers-requires-2 : tie.Need-numbers-requires-2
 numbers-requires-2 c κs = search needs
 
 returns : tie.Need-returns
-returns c = rw (c .before .before .before .before .before .r .given .1) (rw (c .before .comes-to .ensures, c .before .before .hand-back .ensures), c .entry-out .ensures)
+returns c = rw (c .before .before .before .before .before .r .given .1, c .before .comes-to .ensures, c .before .before .hand-back .ensures, c .entry-out .ensures)
 
 returns-2 : tie.Need-returns-2
-returns-2 c = rw (c .before .before .before .before .before .r2 .given .1) (rw (c .before .comes-to2 .ensures, c .before .before .hand-back2 .ensures), c .numbers .ensures)
+returns-2 c = rw (c .before .before .before .before .before .r2 .given .1, c .before .comes-to2 .ensures, c .before .before .hand-back2 .ensures, c .numbers .ensures)
 
 returns-3 : tie.Need-returns-3
-returns-3 c = rw (c .before .before .before .before .before .r3 .given .1) (rw (c .before .refused .ensures, c .before .before .hand-back3 .ensures), c .numbers2 .ensures)
+returns-3 c = rw (c .before .before .before .before .before .r3 .given .1, c .before .refused .ensures, c .before .before .hand-back3 .ensures, c .numbers2 .ensures)
 
 pub raw-location-spec : {M : Type 1} → statement M
 raw-location-spec =

@@ -1,6 +1,5 @@
--- `ranges::entry_out` meets its contract: by the contracts of the calls in it. Assumes nothing.
-use Rattle.entries.specs.Kinds.{kindOf, rangeKinds}
-use Rattle.ffi_words.specs.Entries.{rangeIn}
+-- `ranges::entry_out` meets its contract: by the row of each kind. Assumes nothing.
+use Rattle.entries.proofs.FilledLaws.{ranges-of}
 use borrow.Author.Needs.{needs}
 use Rattle.ffi_words.proofs.ranges.entry_out.Statement.{statement}
 use Rattle.ffi_words.proofs.ranges.entry_out.Tie as tie
@@ -54,36 +53,28 @@ numbers-requires-8 : tie.Need-numbers-requires-8
 numbers-requires-8 c κs = search needs
 
 returns : tie.Need-returns
-unfolding rangeIn kindOf rangeKinds
-returns c = rw (c .before .before .raw .given .1, c .numbers .ensures)
+returns c = rw (c .before .before .raw .given .1, c .numbers .ensures) (ranges-of _ _ .pair)
 
 returns-2 : tie.Need-returns-2
-unfolding rangeIn kindOf rangeKinds
-returns-2 c = rw (c .before .before .raw2 .given .1, c .numbers2 .ensures)
+returns-2 c = rw (c .before .before .raw2 .given .1, c .numbers2 .ensures) (ranges-of _ _ .base-addressx)
 
 returns-3 : tie.Need-returns-3
-unfolding rangeIn kindOf rangeKinds
-returns-3 c = rw (c .before .before .raw3 .given .1, c .numbers3 .ensures)
+returns-3 c = rw (c .before .before .raw3 .given .1, c .numbers3 .ensures) (ranges-of _ _ .startx-endx)
 
 returns-4 : tie.Need-returns-4
-unfolding rangeIn kindOf rangeKinds
-returns-4 c = rw (c .before .before .raw4 .given .1, c .numbers4 .ensures)
+returns-4 c = rw (c .before .before .raw4 .given .1, c .numbers4 .ensures) (ranges-of _ _ .startx-length)
 
 returns-5 : tie.Need-returns-5
-unfolding rangeIn kindOf rangeKinds
-returns-5 c = rw (c .before .before .raw5 .given .1, c .numbers5 .ensures)
+returns-5 c = rw (c .before .before .raw5 .given .1, c .numbers5 .ensures) (ranges-of _ _ .offset-pair)
 
 returns-6 : tie.Need-returns-6
-unfolding rangeIn kindOf rangeKinds
-returns-6 c = rw (c .before .before .raw6 .given .1, c .numbers6 .ensures)
+returns-6 c = rw (c .before .before .raw6 .given .1, c .numbers6 .ensures) (ranges-of _ _ .base-address)
 
 returns-7 : tie.Need-returns-7
-unfolding rangeIn kindOf rangeKinds
-returns-7 c = rw (c .before .before .raw7 .given .1, c .numbers7 .ensures)
+returns-7 c = rw (c .before .before .raw7 .given .1, c .numbers7 .ensures) (ranges-of _ _ .start-end)
 
 returns-8 : tie.Need-returns-8
-unfolding rangeIn kindOf rangeKinds
-returns-8 c = rw (c .before .before .raw8 .given .1, c .numbers8 .ensures)
+returns-8 c = rw (c .before .before .raw8 .given .1, c .numbers8 .ensures) (ranges-of _ _ .start-length)
 
 pub entry-out-spec : {M : Type 1} → statement M
 entry-out-spec =
