@@ -73,20 +73,20 @@ module _ (n : ℕ) (s : List ℕ) (at : ℕ) {r : Place} (p : toldPlace r ≡ sk
   unfolding truncate
   no-truncate q = no-place-then _ p q
 
-module _ (o : RunTimeEndian) (n : ℕ) (s : List ℕ) (at : ℕ) where
-  pub uint-short : length s < at + n → uint o n s at ≡ refusal UnexpectedEof
+module _ (endian : RunTimeEndian) (n : ℕ) (s : List ℕ) (at : ℕ) where
+  pub uint-short : length s < at + n → uint endian n s at ≡ refusal UnexpectedEof
   unfolding uint
   uint-short h = rw (skip-short n s at h)
 
-  pub uint-got : at + n ≤ length s → uint o n s at ≡ gives (got (value o (take n (drop at s))) (at + n))
+  pub uint-got : at + n ≤ length s → uint endian n s at ≡ gives (got (value endian (take n (drop at s))) (at + n))
   unfolding uint
   uint-got h = rw (skip-got n s at h)
 
-  pub address-size : isSize n ≡ true → address o n s at ≡ uint o n s at
+  pub address-size : isSize n ≡ true → address endian n s at ≡ uint endian n s at
   unfolding address
   address-size h = simp h
 
-  pub address-other : isSize n ≡ false → address o n s at ≡ refusal (UnsupportedAddressSize n)
+  pub address-other : isSize n ≡ false → address endian n s at ≡ refusal (UnsupportedAddressSize n)
   unfolding address
   address-other h = simp h
 
@@ -152,28 +152,28 @@ module _ (s : List ℕ) (at : ℕ) {r : Num} (p : told r ≡ uint Little 1 s at)
   size-refused q h = got-then _ p q ∙ simp h
 
 -- an initial length
-module _ (o : RunTimeEndian) (s : List ℕ) (at : ℕ) {r : Num} (p : told r ≡ uint o 4 s at) where
-  pub no-length : {e : Error} → r ≡ num.Refused e → initialLength o s at ≡ refusal e
+module _ (endian : RunTimeEndian) (s : List ℕ) (at : ℕ) {r : Num} (p : told r ≡ uint endian 4 s at) where
+  pub no-length : {e : Error} → r ≡ num.Refused e → initialLength endian s at ≡ refusal e
   unfolding initialLength
   no-length q = refused-then _ p q
 
   module _ {n c : ℕ} (q : r ≡ num.Got n c) where
-    pub length-32 : n < 0xfffffff0 → initialLength o s at ≡ gives (got (lengthOf n Dwarf32) c)
+    pub length-32 : n < 0xfffffff0 → initialLength endian s at ≡ gives (got (lengthOf n Dwarf32) c)
     unfolding initialLength
     length-32 h = got-then _ p q ∙ simp (lt-ltb n 0xfffffff0 h)
 
     module _ (h : 0xfffffff0 ≤ n) where
-      pub length-reserved : (n ≡ 0xffffffff → ⊥) → initialLength o s at ≡ refusal (UnknownReservedLength n)
+      pub length-reserved : (n ≡ 0xffffffff → ⊥) → initialLength endian s at ≡ refusal (UnknownReservedLength n)
       unfolding initialLength
       length-reserved z = got-then _ p q ∙ simp (le-ltb n 0xfffffff0 h, ne-eqb n 0xffffffff z)
 
-      escaped : n ≡ 0xffffffff → initialLength o s at ≡ readThen (uint o 8 s c) (λ m d. gives (got (lengthOf m Dwarf64) d))
+      escaped : n ≡ 0xffffffff → initialLength endian s at ≡ readThen (uint endian 8 s c) (λ m d. gives (got (lengthOf m Dwarf64) d))
       unfolding initialLength
       escaped z = got-then _ p q ∙ simp (le-ltb n 0xfffffff0 h, eq-eqb n 0xffffffff z)
 
-      module _ (z : n ≡ 0xffffffff) {t : Num} (u : told t ≡ uint o 8 s c) where
-        pub length-64 : {m d : ℕ} → t ≡ num.Got m d → initialLength o s at ≡ gives (got (lengthOf m Dwarf64) d)
+      module _ (z : n ≡ 0xffffffff) {t : Num} (u : told t ≡ uint endian 8 s c) where
+        pub length-64 : {m d : ℕ} → t ≡ num.Got m d → initialLength endian s at ≡ gives (got (lengthOf m Dwarf64) d)
         length-64 w = escaped z ∙ got-then _ u w
 
-        pub no-length-64 : {e : Error} → t ≡ num.Refused e → initialLength o s at ≡ refusal e
+        pub no-length-64 : {e : Error} → t ≡ num.Refused e → initialLength endian s at ≡ refusal e
         no-length-64 w = escaped z ∙ refused-then _ u w

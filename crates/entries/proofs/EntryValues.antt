@@ -69,14 +69,14 @@ abbrev pub OfEntry : {E : Type 0} → (E → Type 0) → Raw E → Type 0
 OfEntry P stop = Unit
 OfEntry P (entry e) = P e
 
-module _ (p : Encoding) (endian : RunTimeEndian) (start : ℕ) (s : List ℕ) (bytes : (i : ℕ) → getD s i 0 < 256) where
+module _ (encoding : Encoding) (endian : RunTimeEndian) (start : ℕ) (s : List ℕ) (bytes : (i : ℕ) → getD s i 0 < 256) where
   number-small : (at : ℕ) → Gives (λ v. v < 2 ^ 64) (unsigned s at)
   number-small at = gives-all _ (unsigned s at) (λ v c e. unsigned-lt s at e)
 
-  version-small : (k at : ℕ) → 2 ^ (8 * k) ≤ 2 ^ 64 → Gives (λ v. v < 2 ^ 64) (versionedLength k p endian s at)
+  version-small : (k at : ℕ) → 2 ^ (8 * k) ≤ 2 ^ 64 → Gives (λ v. v < 2 ^ 64) (versionedLength k encoding endian s at)
   unfolding versionedLength
   version-small k at h =
-      pick-ind (Gives (λ v. v < 2 ^ 64)) (leb 5 (p .version)) (λ _. number-small at)
+      pick-ind (Gives (λ v. v < 2 ^ 64)) (leb 5 (encoding .version)) (λ _. number-small at)
       (λ _. gives-all _ (uint endian k s at) (λ v c e. omega (arith, uint-lt endian k s at bytes e)))
 
   split-small : (n c : ℕ) → Gives (λ x. x .offset + x .len ≤ length s) (split n s c)
@@ -86,40 +86,40 @@ module _ (p : Encoding) (endian : RunTimeEndian) (start : ℕ) (s : List ℕ) (b
   unfolding block
   block-small n c = then-gives (λ x. x .offset + x .len ≤ length s) _ (split n s c) _ (split-small n c) (λ x d h. omega arith)
 
-  pub operand-small : (f : Form) (at : ℕ) → Gives (Small (p .«address_size») (start + length s) f) (operand p endian start s f at)
+  pub operand-small : (f : Form) (at : ℕ) → Gives (Small (encoding .«address_size») (start + length s) f) (operand encoding endian start s f at)
   operand-small index at = then-gives _ _ (unsigned s at) _ (number-small at) (λ v c h. h)
   operand-small number at = number-small at
   operand-small rangeLength at = version-small 4 at (omega arith)
-  operand-small address at = gives-all _ (addressAt endian (p .«address_size») s at) (λ v c e. address-lt endian (p .«address_size») s at bytes e)
-  operand-small expression at = then-gives (λ _. Unit) _ (versionedLength 2 p endian s at) (block start s) (gives-all _ (versionedLength 2 p endian s at) (λ _ _ _. tt)) (λ n c _. block-small n c)
+  operand-small address at = gives-all _ (addressAt endian (encoding .«address_size») s at) (λ v c e. address-lt endian (encoding .«address_size») s at bytes e)
+  operand-small expression at = then-gives (λ _. Unit) _ (versionedLength 2 encoding endian s at) (block start s) (gives-all _ (versionedLength 2 encoding endian s at) (λ _ _ _. tt)) (λ n c _. block-small n c)
 
   module _ (E : Type 0) (P : E → Type 0) where
-    pub operands-meet : (fs : List Form) (e : Takes fs E) (at : ℕ) → Meets (p .«address_size») (start + length s) P fs e
-        → Gives (OfEntry P) (operands p endian start s fs e at)
+    pub operands-meet : (fs : List Form) (e : Takes fs E) (at : ℕ) → Meets (encoding .«address_size») (start + length s) P fs e
+        → Gives (OfEntry P) (operands encoding endian start s fs e at)
     operands-meet [] e at h = h
-    operands-meet (f ∷ fs) e at h = then-gives _ _ (operand p endian start s f at) _ (operand-small f at) (λ v c k. operands-meet fs (e v) c (h v k))
+    operands-meet (f ∷ fs) e at h = then-gives _ _ (operand encoding endian start s f at) _ (operand-small f at) (λ v c k. operands-meet fs (e v) c (h v k))
 
-    kind-meets : (unknownEntry : ℕ → Error) (code : ℕ) (k : Kind E) (at : ℕ) → MeetsKind (p .«address_size») (start + length s) P k
-        → Gives (OfEntry P) (ofKind p endian start s unknownEntry code k at)
+    kind-meets : (unknownEntry : ℕ → Error) (code : ℕ) (k : Kind E) (at : ℕ) → MeetsKind (encoding .«address_size») (start + length s) P k
+        → Gives (OfEntry P) (ofKind encoding endian start s unknownEntry code k at)
     kind-meets unknownEntry code endOfList at h = tt
     kind-meets unknownEntry code unknown at h = tt
     kind-meets unknownEntry code (kind fs e) at h = operands-meet fs e at h
 
-    pub coded-meets : (unknownEntry : ℕ → Error) (kinds : ℕ → Kind E) → ((code : ℕ) → MeetsKind (p .«address_size») (start + length s) P (kinds code))
-        → Gives (OfEntry P) (coded p endian start s unknownEntry kinds)
+    pub coded-meets : (unknownEntry : ℕ → Error) (kinds : ℕ → Kind E) → ((code : ℕ) → MeetsKind (encoding .«address_size») (start + length s) P (kinds code))
+        → Gives (OfEntry P) (coded encoding endian start s unknownEntry kinds)
     unfolding coded
     coded-meets unknownEntry kinds h =
         then-gives (λ _. Unit) _ (uint Little 1 s 0) _ (gives-all _ (uint Little 1 s 0) (λ _ _ _. tt)) (λ code c _. kind-meets unknownEntry code (kinds code) c (h code))
 
     pub bare-meets : (base : ℕ → E) (fs : List Form) (pair : ℕ → ℕ → Takes fs E)
-        → ((b e : ℕ) → b < 2 ^ (8 * p .«address_size») → e < 2 ^ (8 * p .«address_size») → P (base e) × Meets (p .«address_size») (start + length s) P fs (pair b e))
-        → Gives (OfEntry P) (bare p endian start s base fs pair)
+        → ((b e : ℕ) → b < 2 ^ (8 * encoding .«address_size») → e < 2 ^ (8 * encoding .«address_size») → P (base e) × Meets (encoding .«address_size») (start + length s) P fs (pair b e))
+        → Gives (OfEntry P) (bare encoding endian start s base fs pair)
     unfolding bare ofPair
     bare-meets base fs pair h =
-        then-gives _ _ (operand p endian start s address 0) _ (operand-small address 0)
-        (λ b c i. then-gives _ _ (operand p endian start s address c) _ (operand-small address c)
+        then-gives _ _ (operand encoding endian start s address 0) _ (operand-small address 0)
+        (λ b c i. then-gives _ _ (operand encoding endian start s address c) _ (operand-small address c)
         (λ e d j. pick-ind (Gives (OfEntry P)) (isEnd b e) (λ _. tt)
-        (λ _. pick-ind (Gives (OfEntry P)) (eqb b (ones (p .«address_size»))) (λ _. h b e i j .0) (λ _. operands-meet fs (pair b e) d (h b e i j .1)))))
+        (λ _. pick-ind (Gives (OfEntry P)) (eqb b (ones (encoding .«address_size»))) (λ _. h b e i j .0) (λ _. operands-meet fs (pair b e) d (h b e i j .1)))))
 
 -- the kinds of a table of which each row meets the property
 pub rows-meet : {E : Type 0} (size len : ℕ) (P : E → Type 0) (rows : List (Row E)) (code : ℕ) → MeetsRows size len P rows → MeetsKind size len P (kindOf rows code)
@@ -211,42 +211,42 @@ location-rows size len = (
   ),
 )
 
-range-entry-sized : (p : Encoding) (endian : RunTimeEndian) (s : List ℕ) → ((i : ℕ) → getD s i 0 < 256) → Gives (OfEntry (Sized (p .«address_size»))) (rangeEntry p endian s)
+range-entry-sized : (encoding : Encoding) (endian : RunTimeEndian) (s : List ℕ) → ((i : ℕ) → getD s i 0 < 256) → Gives (OfEntry (Sized (encoding .«address_size»))) (rangeEntry encoding endian s)
 unfolding rangeEntry
-range-entry-sized p endian s bytes =
-    pick-ind (Gives (OfEntry (Sized (p .«address_size»)))) (leb 5 (p .version))
-    (λ _. coded-meets p endian 0 s bytes _ (Sized (p .«address_size»)) _ (kindOf rangeKinds)
-    (λ code. rows-meet (p .«address_size») (0 + length s) (Sized (p .«address_size»)) rangeKinds code (range-rows (p .«address_size») (0 + length s))))
-    (λ _. bare-meets p endian 0 s bytes _ (Sized (p .«address_size»)) _ _ _ (λ b e h k. (k, (h, k))))
+range-entry-sized encoding endian s bytes =
+    pick-ind (Gives (OfEntry (Sized (encoding .«address_size»)))) (leb 5 (encoding .version))
+    (λ _. coded-meets encoding endian 0 s bytes _ (Sized (encoding .«address_size»)) _ (kindOf rangeKinds)
+    (λ code. rows-meet (encoding .«address_size») (0 + length s) (Sized (encoding .«address_size»)) rangeKinds code (range-rows (encoding .«address_size») (0 + length s))))
+    (λ _. bare-meets encoding endian 0 s bytes _ (Sized (encoding .«address_size»)) _ _ _ (λ b e h k. (k, (h, k))))
 
-location-entry-lawful : (split : Bool) (p : Encoding) (endian : RunTimeEndian) (start : ℕ) (s : List ℕ) → ((i : ℕ) → getD s i 0 < 256)
-    → Gives (OfEntry (Lawful (p .«address_size») (start + length s))) (locationEntry split p endian start s)
+location-entry-lawful : (split : Bool) (encoding : Encoding) (endian : RunTimeEndian) (start : ℕ) (s : List ℕ) → ((i : ℕ) → getD s i 0 < 256)
+    → Gives (OfEntry (Lawful (encoding .«address_size») (start + length s))) (locationEntry split encoding endian start s)
 unfolding locationEntry
-location-entry-lawful split p endian start s bytes =
-    pick-ind (Gives (OfEntry (Lawful (p .«address_size») (start + length s)))) (split || leb 5 (p .version))
-    (λ _. coded-meets p endian start s bytes _ (Lawful (p .«address_size») (start + length s)) _ (kindOf locationKinds)
-    (λ code. rows-meet (p .«address_size») (start + length s) (Lawful (p .«address_size») (start + length s)) locationKinds code (location-rows (p .«address_size») (start + length s))))
-    (λ _. bare-meets p endian start s bytes _ (Lawful (p .«address_size») (start + length s)) _ _ _ (λ b e h k. ((k, tt), λ x l. ((h, k), l))))
+location-entry-lawful split encoding endian start s bytes =
+    pick-ind (Gives (OfEntry (Lawful (encoding .«address_size») (start + length s)))) (split || leb 5 (encoding .version))
+    (λ _. coded-meets encoding endian start s bytes _ (Lawful (encoding .«address_size») (start + length s)) _ (kindOf locationKinds)
+    (λ code. rows-meet (encoding .«address_size») (start + length s) (Lawful (encoding .«address_size») (start + length s)) locationKinds code (location-rows (encoding .«address_size») (start + length s))))
+    (λ _. bare-meets encoding endian start s bytes _ (Lawful (encoding .«address_size») (start + length s)) _ _ _ (λ b e h k. ((k, tt), λ x l. ((h, k), l))))
 
 -- for the two lists
-pub range-sized : (p : Encoding) (endian : RunTimeEndian) (s : List ℕ) (at : ℕ) → ((i : ℕ) → getD s i 0 < 256) → {e : RawRngListEntry} {c : ℕ}
-    → rawRange p endian s at ≡ gives (got (entry e) c) → Sized (p .«address_size») e
-range-sized p endian s at bytes q =
-    raw-has (Sized (p .«address_size»)) (rangeEntry p endian) s at q
-    (raw-gives (Sized (p .«address_size»)) (rangeEntry p endian) s at (λ _. range-entry-sized p endian (drop at s) (drop-bytes s at bytes)))
+pub range-sized : (encoding : Encoding) (endian : RunTimeEndian) (s : List ℕ) (at : ℕ) → ((i : ℕ) → getD s i 0 < 256) → {e : RawRngListEntry} {c : ℕ}
+    → rawRange encoding endian s at ≡ gives (got (entry e) c) → Sized (encoding .«address_size») e
+range-sized encoding endian s at bytes q =
+    raw-has (Sized (encoding .«address_size»)) (rangeEntry encoding endian) s at q
+    (raw-gives (Sized (encoding .«address_size»)) (rangeEntry encoding endian) s at (λ _. range-entry-sized encoding endian (drop at s) (drop-bytes s at bytes)))
 
-location-lawful : (split : Bool) (p : Encoding) (endian : RunTimeEndian) (s : List ℕ) (at : ℕ) → ((i : ℕ) → getD s i 0 < 256) → {e : RawLocListEntry} {c : ℕ}
-    → rawLocation split p endian s at ≡ gives (got (entry e) c) → Lawful (p .«address_size») (length s) e
-location-lawful split p endian s at bytes q =
-    raw-has (Lawful (p .«address_size») (length s)) (locationEntry split p endian at) s at q
-    (raw-gives (Lawful (p .«address_size») (length s)) (locationEntry split p endian at) s at
+location-lawful : (split : Bool) (encoding : Encoding) (endian : RunTimeEndian) (s : List ℕ) (at : ℕ) → ((i : ℕ) → getD s i 0 < 256) → {e : RawLocListEntry} {c : ℕ}
+    → rawLocation split encoding endian s at ≡ gives (got (entry e) c) → Lawful (encoding .«address_size») (length s) e
+location-lawful split encoding endian s at bytes q =
+    raw-has (Lawful (encoding .«address_size») (length s)) (locationEntry split encoding endian at) s at q
+    (raw-gives (Lawful (encoding .«address_size») (length s)) (locationEntry split encoding endian at) s at
     (λ l. let n : at + length (drop at s) ≡ length s = omega (arith, length-drop at s) in
-    rw n at (location-entry-lawful split p endian at (drop at s) (drop-bytes s at bytes))))
+    rw n at (location-entry-lawful split encoding endian at (drop at s) (drop-bytes s at bytes))))
 
-pub location-sized : (split : Bool) (p : Encoding) (endian : RunTimeEndian) (s : List ℕ) (at : ℕ) → ((i : ℕ) → getD s i 0 < 256) → {e : RawLocListEntry} {c : ℕ}
-    → rawLocation split p endian s at ≡ gives (got (entry e) c) → SizedLocation (p .«address_size») e
-location-sized split p endian s at bytes q = location-lawful split p endian s at bytes q .0
+pub location-sized : (split : Bool) (encoding : Encoding) (endian : RunTimeEndian) (s : List ℕ) (at : ℕ) → ((i : ℕ) → getD s i 0 < 256) → {e : RawLocListEntry} {c : ℕ}
+    → rawLocation split encoding endian s at ≡ gives (got (entry e) c) → SizedLocation (encoding .«address_size») e
+location-sized split encoding endian s at bytes q = location-lawful split encoding endian s at bytes q .0
 
-pub location-within : (split : Bool) (p : Encoding) (endian : RunTimeEndian) (s : List ℕ) (at : ℕ) → ((i : ℕ) → getD s i 0 < 256) → {e : RawLocListEntry} {c : ℕ}
-    → rawLocation split p endian s at ≡ gives (got (entry e) c) → Within (length s) e
-location-within split p endian s at bytes q = location-lawful split p endian s at bytes q .1
+pub location-within : (split : Bool) (encoding : Encoding) (endian : RunTimeEndian) (s : List ℕ) (at : ℕ) → ((i : ℕ) → getD s i 0 < 256) → {e : RawLocListEntry} {c : ℕ}
+    → rawLocation split encoding endian s at ≡ gives (got (entry e) c) → Within (length s) e
+location-within split encoding endian s at bytes q = location-lawful split encoding endian s at bytes q .1

@@ -22,26 +22,26 @@ use Rattle.entries.specs.declared.RawRngListEntry.the-variants.{StartLen
 use Rattle.entries.specs.Kinds.{Kind, unknown, rangeKinds, locationKinds, kindOf, ofKind, coded, isEnd, ofPair, bare, codedRange, bareRange, hasKinds, codedLocation, bareLocation, rangeEntry, locationEntry, moved, rawAt}
 
 -- the code's byte, and the kind that it stands for
-module _ {E : Type 0} (p : Encoding) (endian : RunTimeEndian) (start : ℕ) (s : List ℕ) (unknownEntry : ℕ → Error) (kinds : ℕ → Kind E) {r : Num} (h : told r ≡ uint Little 1 s 0) where
-  pub no-code : {x : Error} → r ≡ num.Refused x → coded p endian start s unknownEntry kinds ≡ refusal x
+module _ {E : Type 0} (encoding : Encoding) (endian : RunTimeEndian) (start : ℕ) (s : List ℕ) (unknownEntry : ℕ → Error) (kinds : ℕ → Kind E) {r : Num} (h : told r ≡ uint Little 1 s 0) where
+  pub no-code : {x : Error} → r ≡ num.Refused x → coded encoding endian start s unknownEntry kinds ≡ refusal x
   unfolding coded
   no-code q = rw (← h, q)
 
-  pub code-is : {code c : ℕ} (k : ℕ) → r ≡ num.Got code c → code ≡ k → coded p endian start s unknownEntry kinds ≡ ofKind p endian start s unknownEntry k (kinds k) c
+  pub code-is : {code c : ℕ} (k : ℕ) → r ≡ num.Got code c → code ≡ k → coded encoding endian start s unknownEntry kinds ≡ ofKind encoding endian start s unknownEntry k (kinds k) c
   unfolding coded
   code-is k q e = rw (← h, q, e)
 
-  pub code-unknown : {code c : ℕ} → r ≡ num.Got code c → kinds code ≡ unknown → coded p endian start s unknownEntry kinds ≡ refusal (unknownEntry code)
+  pub code-unknown : {code c : ℕ} → r ≡ num.Got code c → kinds code ≡ unknown → coded encoding endian start s unknownEntry kinds ≡ refusal (unknownEntry code)
   unfolding coded
   code-unknown q e = rw (← h, q, e)
 
 -- an entry by its code: a start and a length, or the end mark
-module _ (p : Encoding) (endian : RunTimeEndian) (s : List ℕ) {c : ℕ} where
-  pub start-length-range : uint Little 1 s 0 ≡ gives (got 7 c) → codedRange p endian s ≡ operands p endian 0 s (address ∷ number ∷ []) StartLength c
+module _ (encoding : Encoding) (endian : RunTimeEndian) (s : List ℕ) {c : ℕ} where
+  pub start-length-range : uint Little 1 s 0 ≡ gives (got 7 c) → codedRange encoding endian s ≡ operands encoding endian 0 s (address ∷ number ∷ []) StartLength c
   unfolding coded kindOf rangeKinds
   start-length-range q = rw q
 
-  pub end-of-ranges : uint Little 1 s 0 ≡ gives (got 0 c) → codedRange p endian s ≡ gives (got stop c)
+  pub end-of-ranges : uint Little 1 s 0 ≡ gives (got 0 c) → codedRange encoding endian s ≡ gives (got stop c)
   unfolding coded kindOf rangeKinds
   end-of-ranges q = rw q
 
@@ -59,50 +59,50 @@ no-location-kind k a b c d e f g h i =
     simp (ne-eqb k 0 a, ne-eqb k 1 b, ne-eqb k 2 c, ne-eqb k 3 d, ne-eqb k 4 e, ne-eqb k 5 f, ne-eqb k 6 g, ne-eqb k 7 h, ne-eqb k 8 i)
 
 -- a bare pair: its begin, its end, and what it is
-module _ {E : Type 0} (p : Encoding) (endian : RunTimeEndian) (start : ℕ) (s : List ℕ) (base : ℕ → E) (fs : List Form) (pair : ℕ → ℕ → Takes fs E) {r : Num} (h : told r ≡ addressAt endian (p .«address_size») s 0) where
-  pub no-begin : {x : Error} → r ≡ num.Refused x → bare p endian start s base fs pair ≡ refusal x
+module _ {E : Type 0} (encoding : Encoding) (endian : RunTimeEndian) (start : ℕ) (s : List ℕ) (base : ℕ → E) (fs : List Form) (pair : ℕ → ℕ → Takes fs E) {r : Num} (h : told r ≡ addressAt endian (encoding .«address_size») s 0) where
+  pub no-begin : {x : Error} → r ≡ num.Refused x → bare encoding endian start s base fs pair ≡ refusal x
   unfolding bare
   no-begin q = rw (← h, q)
 
-  module _ {b c : ℕ} (q : r ≡ num.Got b c) {r2 : Num} (h2 : told r2 ≡ addressAt endian (p .«address_size») s c) where
-    pub no-end : {x : Error} → r2 ≡ num.Refused x → bare p endian start s base fs pair ≡ refusal x
+  module _ {b c : ℕ} (q : r ≡ num.Got b c) {r2 : Num} (h2 : told r2 ≡ addressAt endian (encoding .«address_size») s c) where
+    pub no-end : {x : Error} → r2 ≡ num.Refused x → bare encoding endian start s base fs pair ≡ refusal x
     unfolding bare
     no-end q2 = rw (← h, q) (rw (← h2, q2))
 
     module _ {e d : ℕ} (q2 : r2 ≡ num.Got e d) where
-      pair-is : bare p endian start s base fs pair ≡ ofPair p endian start s base fs pair b e d
+      pair-is : bare encoding endian start s base fs pair ≡ ofPair encoding endian start s base fs pair b e d
       unfolding bare
       pair-is = rw (← h, q) (rw (← h2, q2))
 
-      pub pair-end : isEnd b e ≡ true → bare p endian start s base fs pair ≡ gives (got stop d)
+      pub pair-end : isEnd b e ≡ true → bare encoding endian start s base fs pair ≡ gives (got stop d)
       unfolding ofPair
       pair-end t = pair-is ∙ simp t
 
-      module _ (t : isEnd b e ≡ false) {m : ℕ} (o : m ≡ ones (p .«address_size»)) where
-        pub pair-base : b ≡ m → bare p endian start s base fs pair ≡ gives (got (entry (base e)) d)
+      module _ (t : isEnd b e ≡ false) {m : ℕ} (o : m ≡ ones (encoding .«address_size»)) where
+        pub pair-base : b ≡ m → bare encoding endian start s base fs pair ≡ gives (got (entry (base e)) d)
         unfolding ofPair
-        pair-base u = pair-is ∙ simp (t, eq-eqb b (ones (p .«address_size»)) (u ∙ o))
+        pair-base u = pair-is ∙ simp (t, eq-eqb b (ones (encoding .«address_size»)) (u ∙ o))
 
-        pub pair-offsets : (b ≡ m → ⊥) → bare p endian start s base fs pair ≡ operands p endian start s fs (pair b e) d
+        pub pair-offsets : (b ≡ m → ⊥) → bare encoding endian start s base fs pair ≡ operands encoding endian start s fs (pair b e) d
         unfolding ofPair
-        pair-offsets u = pair-is ∙ simp (t, ne-eqb b (ones (p .«address_size»)) (λ v. u (v ∙ sym o)))
+        pair-offsets u = pair-is ∙ simp (t, ne-eqb b (ones (encoding .«address_size»)) (λ v. u (v ∙ sym o)))
 
 -- where the list's form is chosen
-module _ (p : Encoding) (endian : RunTimeEndian) (s : List ℕ) where
-  pub range-coded : 5 ≤ p .version → rangeEntry p endian s ≡ codedRange p endian s
+module _ (encoding : Encoding) (endian : RunTimeEndian) (s : List ℕ) where
+  pub range-coded : 5 ≤ encoding .version → rangeEntry encoding endian s ≡ codedRange encoding endian s
   unfolding rangeEntry
   range-coded v = simp (le-leb _ _ v)
 
-  pub range-bare : p .version < 5 → rangeEntry p endian s ≡ bareRange p endian s
+  pub range-bare : encoding .version < 5 → rangeEntry encoding endian s ≡ bareRange encoding endian s
   unfolding rangeEntry
   range-bare v = simp (lt-leb _ _ v)
 
   module _ (start : ℕ) (split : Bool) where
-    pub location-coded : hasKinds split (p .version) ≡ true → locationEntry split p endian start s ≡ codedLocation p endian start s
+    pub location-coded : hasKinds split (encoding .version) ≡ true → locationEntry split encoding endian start s ≡ codedLocation encoding endian start s
     unfolding locationEntry
     location-coded e = simp e
 
-    pub location-bare : hasKinds split (p .version) ≡ false → locationEntry split p endian start s ≡ bareLocation p endian start s
+    pub location-bare : hasKinds split (encoding .version) ≡ false → locationEntry split encoding endian start s ≡ bareLocation encoding endian start s
     unfolding locationEntry
     location-bare e = simp e
 
@@ -121,6 +121,6 @@ pub part-is : (s : List ℕ) (at : ℕ) → take (length s - at) (drop at s) ≡
 part-is s at = take-all (length s - at) (drop at s) (omega (arith, length-drop at s))
 
 -- maps that agree on every code read alike: a loaded table that says what the fixed one says changes nothing
-pub same-kinds : {E : Type 0} (p : Encoding) (endian : RunTimeEndian) (start : ℕ) (s : List ℕ) (unknownEntry : ℕ → Error) (f g : ℕ → Kind E) → ((code : ℕ) → f code ≡ g code)
-    → coded p endian start s unknownEntry f ≡ coded p endian start s unknownEntry g
-same-kinds p endian start s unknownEntry f g h = ap (λ (k : ℕ → Kind _). coded p endian start s unknownEntry k) (fun-ext h)
+pub same-kinds : {E : Type 0} (encoding : Encoding) (endian : RunTimeEndian) (start : ℕ) (s : List ℕ) (unknownEntry : ℕ → Error) (f g : ℕ → Kind E) → ((code : ℕ) → f code ≡ g code)
+    → coded encoding endian start s unknownEntry f ≡ coded encoding endian start s unknownEntry g
+same-kinds encoding endian start s unknownEntry f g h = ap (λ (k : ℕ → Kind _). coded encoding endian start s unknownEntry k) (fun-ext h)

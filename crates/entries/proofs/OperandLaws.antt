@@ -25,7 +25,7 @@ use Rattle.entries.specs.declared.Expression.{Expression}
 use Rattle.entries.specs.declared.operands.ExpressionAnswer.{ExpressionAnswer}
 use Rattle.entries.specs.declared.operands.ExpressionAnswer.the-variants as parsed
 use Rattle.entries.specs.Told.{Step, stepOf, toldExpression, passedOn}
-use Rattle.entries.specs.Forms.{expression, addrIndex, indexed, versionedLength, placed, block, operand, stop}
+use Rattle.entries.specs.Forms.{expression, addrIndex, indexed, versionedLength, expressionAt, block, operand, stop}
 
 -- a refusal that the code hands on
 pub passed-on : {E : Type 0} {t : Result (Step E)} {r : Num} {x : Error} → t ≡ stepOf (passedOn (gives (got stop 0)) (told r)) → r ≡ num.Refused x → t ≡ stepOf (refusal x)
@@ -58,25 +58,25 @@ module _ {B : Type 0} {r : ExpressionAnswer} {d : Read Expression} (f : Expressi
   no-expression-then q = rw (← p, q)
 
 -- a length that depends on the version
-module _ (k : ℕ) (p : Encoding) (endian : RunTimeEndian) (s : List ℕ) (at : ℕ) where
-  pub from-five : 5 ≤ p .version → versionedLength k p endian s at ≡ unsigned s at
+module _ (k : ℕ) (encoding : Encoding) (endian : RunTimeEndian) (s : List ℕ) (at : ℕ) where
+  pub from-five : 5 ≤ encoding .version → versionedLength k encoding endian s at ≡ unsigned s at
   unfolding versionedLength
   from-five h = simp (le-leb _ _ h)
 
-  pub before-five : p .version < 5 → versionedLength k p endian s at ≡ uint endian k s at
+  pub before-five : encoding .version < 5 → versionedLength k encoding endian s at ≡ uint endian k s at
   unfolding versionedLength
   before-five h = simp (lt-leb _ _ h)
 
 -- an expression: its length is there, or not
-pub length-is : (p : Encoding) (endian : RunTimeEndian) (start : ℕ) (s : List ℕ) (at : ℕ) {n c : ℕ} → versionedLength 2 p endian s at ≡ gives (got n c)
-    → operand p endian start s expression at ≡ block start s n c
-length-is p endian start s at h = rw h
+pub length-is : (encoding : Encoding) (endian : RunTimeEndian) (start : ℕ) (s : List ℕ) (at : ℕ) {n c : ℕ} → versionedLength 2 encoding endian s at ≡ gives (got n c)
+    → operand encoding endian start s expression at ≡ block start s n c
+length-is encoding endian start s at h = rw h
 
-module _ (p : Encoding) (endian : RunTimeEndian) (start : ℕ) (s : List ℕ) (at : ℕ) {r : Num} (h : told r ≡ versionedLength 2 p endian s at) where
-  pub length-refused : {x : Error} → r ≡ num.Refused x → operand p endian start s expression at ≡ refusal x
+module _ (encoding : Encoding) (endian : RunTimeEndian) (start : ℕ) (s : List ℕ) (at : ℕ) {r : Num} (h : told r ≡ versionedLength 2 encoding endian s at) where
+  pub length-refused : {x : Error} → r ≡ num.Refused x → operand encoding endian start s expression at ≡ refusal x
   length-refused q = rw (← h, q)
 
-  pub length-got : {n c : ℕ} → r ≡ num.Got n c → operand p endian start s expression at ≡ block start s n c
+  pub length-got : {n c : ℕ} → r ≡ num.Got n c → operand encoding endian start s expression at ≡ block start s n c
   length-got q = rw (← h, q)
 
 -- and so are its bytes, or not
@@ -85,7 +85,7 @@ module _ (start n : ℕ) (s : List ℕ) (c : ℕ) {r : Split} (h : toldSplit r �
   unfolding block
   block-short l = rw (← h, l)
 
-  pub block-there : {x : Span} {d : ℕ} → r ≡ cut.Got x d → block start s n c ≡ gives (got (placed start x) d)
+  pub block-there : {x : Span} {d : ℕ} → r ≡ cut.Got x d → block start s n c ≡ gives (got (expressionAt start x) d)
   unfolding block
   block-there l = rw (← h, l)
 

@@ -36,12 +36,12 @@ unfoldable pub versionedLength : ℕ → Encoding → RunTimeEndian → List ℕ
 versionedLength size encoding endian s at = pick (leb 5 (encoding .version)) (unsigned s at) (uint endian size s at)
 
 -- an expression's place is counted from the section's start
-abbrev pub placed : ℕ → Span → Expression
-placed start x = record { offset = start + x .offset; len = x .len }
+abbrev pub expressionAt : ℕ → Span → Expression
+expressionAt start x = record { offset = start + x .offset; len = x .len }
 
 -- as many bytes as the length says
 unfoldable pub block : ℕ → List ℕ → ℕ → ℕ → Read Expression
-block start s n c = readThen (split n s c) (λ x d. gives (got (placed start x) d))
+block start s n c = readThen (split n s c) (λ x d. gives (got (expressionAt start x) d))
 
 -- an operand of a form at a place; up to version 4 rangeLength is four bytes and an expression's length two
 abbrev pub operand : Encoding → RunTimeEndian → ℕ → List ℕ → (f : Form) → ℕ → Read (Value f)

@@ -1,7 +1,7 @@
 -- The kinds of entries, the entry at the front of a part, and the raw entry at a place of a section.
 use Prim.Native.Nat.{ℕ, _+_}
 use mathlib.Core.List.{List, [], _∷_}
-use mathlib.Core.Bool.{Bool, _||_, _&&_}
+use mathlib.Core.Bool.{Bool, false, _||_, _&&_}
 use lib.ListN.{length, drop}
 use lib.Dec.{leb, eqb}
 use Rattle.bytes.specs.Read.{gives, got, Read, readThen, pick}
@@ -101,13 +101,13 @@ codedLocation encoding endian start s = coded encoding endian start s UnknownLoc
 abbrev pub bareLocation : Encoding → RunTimeEndian → ℕ → List ℕ → Read (Raw RawLocListEntry)
 bareLocation encoding endian start s = bare encoding endian start s loc.BaseAddress (expression ∷ []) loc.AddressOrOffsetPair
 
--- the entry at the front of a part: kinds from version 5 on, bare pairs before
-unfoldable pub rangeEntry : Encoding → RunTimeEndian → List ℕ → Read (Raw RawRngListEntry)
-rangeEntry encoding endian s = pick (leb 5 (encoding .version)) (codedRange encoding endian s) (bareRange encoding endian s)
-
--- GNU split lists have kinds in every version
+-- whether entries have kinds: from version 5 on, and in GNU split lists of every version
 abbrev pub hasKinds : Bool → ℕ → Bool
 hasKinds split version = split || leb 5 version
+
+-- the entry at the front of a part: of a kind, or a bare pair. Range lists are read as in files that are not split
+unfoldable pub rangeEntry : Encoding → RunTimeEndian → List ℕ → Read (Raw RawRngListEntry)
+rangeEntry encoding endian s = pick (hasKinds false (encoding .version)) (codedRange encoding endian s) (bareRange encoding endian s)
 
 unfoldable pub locationEntry : Bool → Encoding → RunTimeEndian → ℕ → List ℕ → Read (Raw RawLocListEntry)
 locationEntry split encoding endian start s =

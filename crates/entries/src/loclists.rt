@@ -19,7 +19,7 @@ ghost use Rattle.entries.specs.Heads.{headed, numberPair, startxLength};
 
 // The head of kinds 2 and 4: two LEB128 numbers.
 fn number_pair(part: &[u8], at: usize, code: u64) -> Head
-    ensures { λ r. ⌜ ((p : Encoding) (endian : RunTimeEndian) (start : ℕ) → headed p endian start (now (part .entry)) r ≡ numberPair p endian start (now (part .entry)) code at) ⌝ }
+    ensures { λ r. ⌜ ((encoding : Encoding) (endian : RunTimeEndian) (start : ℕ) → headed encoding endian start (now (part .entry)) r ≡ numberPair encoding endian start (now (part .entry)) code at) ⌝ }
 {
     let r = bytes::leb128::unsigned(part, at);
     let Num::Got(a, c) = r else {

@@ -11,7 +11,7 @@ ghost use Rattle.sheets.specs.Sheet.{sheetKept, sheetRanges};
 ghost use Rattle.coverage.specs.Output.{written};
 ghost use Rattle.coverage.specs.Told.{made};
 ghost use Rattle.ffi_words.specs.Common.{left};
-ghost use Rattle.ffi_words.specs.Coverages.{handed, handsOut, coverageIn, outputLeft};
+ghost use Rattle.ffi_words.specs.Coverages.{handed, handsOut, handedCoverage, outputLeft};
 
 // 12 where the bytes are no sheet.
 #[no_mangle]
@@ -29,7 +29,7 @@ pub extern "C" fn yz_coverage_from_sheet(
 // 12 where the first n places make no lawful sheet, or n is above 1,024; then 11.
 #[no_mangle]
 pub extern "C" fn yz_sheet(n: u64, begins: &Places, ends: &Places, output: &mut [u8]) -> YzCount
-    ensures { λ r. ⌜ left r (now (output .exit)) ≡ outputLeft (written (sheetKept (coverageIn n (now (begins .entry)) (now (ends .entry)))) (now (output .entry))) ⌝ }
+    ensures { λ r. ⌜ left r (now (output .exit)) ≡ outputLeft (written (sheetKept (handedCoverage n (now (begins .entry)) (now (ends .entry)))) (now (output .entry))) ⌝ }
 {
     let coverage = Coverage {
         n: n as usize,
@@ -43,7 +43,7 @@ pub extern "C" fn yz_sheet(n: u64, begins: &Places, ends: &Places, output: &mut 
 // Refused as a sheet is.
 #[no_mangle]
 pub extern "C" fn yz_canonical(n: u64, begins: &Places, ends: &Places, output: &mut [u8]) -> YzCount
-    ensures { λ r. ⌜ left r (now (output .exit)) ≡ outputLeft (written (canonicalKept (coverageIn n (now (begins .entry)) (now (ends .entry)))) (now (output .entry))) ⌝ }
+    ensures { λ r. ⌜ left r (now (output .exit)) ≡ outputLeft (written (canonicalKept (handedCoverage n (now (begins .entry)) (now (ends .entry)))) (now (output .entry))) ⌝ }
 {
     let coverage = Coverage {
         n: n as usize,

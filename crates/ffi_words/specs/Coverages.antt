@@ -33,8 +33,8 @@ abbrev pub handsOut : Answer → List ℕ → List ℕ → Handed
 handsOut a bs es = byVerdict (a .verdict) (a .coverage) bs es
 
 -- the coverage that a caller hands in
-abbrev pub coverageIn : ℕ → List ℕ → List ℕ → Coverage
-coverageIn n bs es = record { n = n; begins = bs; ends = es }
+abbrev pub handedCoverage : ℕ → List ℕ → List ℕ → Coverage
+handedCoverage n bs es = record { n = n; begins = bs; ends = es }
 
 -- how many ranges or bytes were written, and the output then
 abbrev pub countWritten : Result ℕ → YzCount

@@ -24,7 +24,7 @@ ghost use mathlib.Core.Path.{_≡_};
 ghost use Rattle.bytes.specs.Read.{gives};
 ghost use Rattle.entries.specs.Filled.{whole};
 ghost use Rattle.lists.specs.Walk.{item, toldNextLocation, toldRawLocation, toldConvertedLocation};
-ghost use Rattle.lookups.specs.Lookup.{toldLocation};
+ghost use Rattle.lookups.specs.Lookup.{toldLocationFound};
 ghost use Rattle.ffi_words.specs.Common.{left, noPart};
 ghost use Rattle.ffi_words.specs.Entries.{expressionIn, expressionTold, toldLocationTaken, entryOnly, locationIn, rawLocationTold, rawLocationNext, convertLocation};
 ghost use Rattle.ffi_words.specs.Locations.{locationTold, noLocation, locationNext, locationOutcome, locationFound};
@@ -105,7 +105,7 @@ pub fn location_next(r: LocationAnswer, words: &mut WalkWords) -> YzLocation
 }
 
 pub fn location_found(r: LocationFound) -> YzLocation
-    ensures { λ a. ⌜ a ≡ locationFound (toldLocation r) ⌝ }
+    ensures { λ a. ⌜ a ≡ locationFound (toldLocationFound r) ⌝ }
 {
     match r {
         LocationFound::Found(location) => location_told(location),

@@ -22,7 +22,7 @@ ghost use mathlib.Core.Path.{_≡_};
 ghost use Rattle.bytes.specs.Read.{gives};
 ghost use Rattle.entries.specs.Filled.{whole};
 ghost use Rattle.lists.specs.Walk.{item, toldNextRange, toldRawRange, toldConvertedRange};
-ghost use Rattle.lookups.specs.Lookup.{toldRange};
+ghost use Rattle.lookups.specs.Lookup.{toldRangeFound};
 ghost use Rattle.ffi_words.specs.Common.{left};
 ghost use Rattle.ffi_words.specs.Entries.{toldRangeTaken, entryOnly, rangeIn, rawRangeTold, rawRangeNext, convertRange};
 ghost use Rattle.ffi_words.specs.Ranges.{rangeTold, noRange, rangeNext, rangeOutcome, rangeFound};
@@ -88,7 +88,7 @@ pub fn range_next(r: RangeAnswer, words: &mut WalkWords) -> YzRange
 }
 
 pub fn range_found(r: RangeFound) -> YzRange
-    ensures { λ a. ⌜ a ≡ rangeFound (toldRange r) ⌝ }
+    ensures { λ a. ⌜ a ≡ rangeFound (toldRangeFound r) ⌝ }
 {
     match r {
         RangeFound::Found(range) => range_told(range),

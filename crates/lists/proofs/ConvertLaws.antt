@@ -59,25 +59,25 @@ module _ {r : AddressAnswer} {d : Result ℕ} (f : ℕ → Result Turn) (p : tol
   lookup-refused size h e = rw (e, ← p, h)
 
 -- opening
-module _ (p : Encoding) (s : List ℕ) (offset base : ℕ) where
-  pub opened-list : isSize (p .«address_size») ≡ true → offset ≤ length s → opened p s offset base ≡ gives (walkAt offset base)
+module _ (encoding : Encoding) (s : List ℕ) (offset base : ℕ) where
+  pub opened-list : isSize (encoding .«address_size») ≡ true → offset ≤ length s → opened encoding s offset base ≡ gives (walkAt offset base)
   unfolding opened
   opened-list h l = simp (h, le-leb _ _ l)
 
-  pub opened-past : isSize (p .«address_size») ≡ true → length s < offset → opened p s offset base ≡ refusal UnexpectedEof
+  pub opened-past : isSize (encoding .«address_size») ≡ true → length s < offset → opened encoding s offset base ≡ refusal UnexpectedEof
   unfolding opened
   opened-past h l = simp (h, lt-leb _ _ l)
 
-  pub opened-other : isSize (p .«address_size») ≡ false → opened p s offset base ≡ refusal (UnsupportedAddressSize (p .«address_size»))
+  pub opened-other : isSize (encoding .«address_size») ≡ false → opened encoding s offset base ≡ refusal (UnsupportedAddressSize (encoding .«address_size»))
   unfolding opened
   opened-other h = simp h
 
-module _ (p : Encoding) (older newer : List ℕ) where
-  pub older-section : p .version ≤ 4 → sectionFor p older newer ≡ older
+module _ (encoding : Encoding) (older newer : List ℕ) where
+  pub older-section : encoding .version ≤ 4 → sectionFor encoding older newer ≡ older
   unfolding sectionFor
   older-section h = simp (le-leb _ _ h)
 
-  pub newer-section : 4 < p .version → sectionFor p older newer ≡ newer
+  pub newer-section : 4 < encoding .version → sectionFor encoding older newer ≡ newer
   unfolding sectionFor
   newer-section h = simp (lt-leb _ _ h)
 

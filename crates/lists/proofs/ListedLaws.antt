@@ -54,7 +54,7 @@ module _ (table : DebugAddrIndex → Result ℕ) (size : ℕ) (w : Walk) where
   picked true x y f g = f
   picked false x y f g = g
 
-  pub converted-range : (p : Encoding) (endian : RunTimeEndian) (s : List ℕ) (d : Expression) (b : RawRngListEntry)
-      → outcomeIn false (converted table size w d b) ≡ convertRaw (ranges p endian s) table size w b
+  pub converted-range : (encoding : Encoding) (endian : RunTimeEndian) (s : List ℕ) (d : Expression) (b : RawRngListEntry)
+      → outcomeIn false (converted table size w d b) ≡ convertRaw (ranges encoding endian s) table size w b
   unfolding convertRaw
-  converted-range p endian s d b = picked (isSize size) _ _ (outcome-range d (convert table size (w .«base_address») b)) refl
+  converted-range encoding endian s d b = picked (isSize size) _ _ (outcome-range d (convert table size (w .«base_address») b)) refl

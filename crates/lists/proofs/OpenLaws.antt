@@ -22,9 +22,9 @@ module _ {B : Type 0} {r : Opened} {d : Result Walk} (f : Walk → Result B) (p 
   pub no-list-then : {e : Error} → r ≡ answer.Refused e → andThen d f ≡ refusal e
   no-list-then q = rw (← p, q)
 
-pub opened-size : (p : Encoding) (s : List ℕ) (offset base : ℕ) {w : Walk} → opened p s offset base ≡ gives w → isSize (p .«address_size») ≡ true
+pub opened-size : (encoding : Encoding) (s : List ℕ) (offset base : ℕ) {w : Walk} → opened encoding s offset base ≡ gives w → isSize (encoding .«address_size») ≡ true
 unfolding opened
-opened-size p s offset base {w} q = chosen (isSize (p .«address_size»)) _ _ _ q
+opened-size encoding s offset base {w} q = chosen (isSize (encoding .«address_size»)) _ _ _ q
   where
     chosen : (t : Bool) (x : Result Walk) (n : ℕ) (vs : List ℕ) → pick t x (refused n vs) ≡ gives w → t ≡ true
     chosen true x n vs f = refl

@@ -19,15 +19,15 @@ moved-of : {A : Type 0} (s : List ℕ) (at : ℕ) (r : Read A) → Took (at + 1)
 moved-of s at (gives (got v c)) h = (omega arith, h .1)
 moved-of s at (refused n vs) h = tt
 
-pub listed-took : (l split : Bool) (p : Encoding) (endian : RunTimeEndian) (s t : List ℕ) (at : ℕ) → at < length s
-    → Took (at + 1) at s t (readIn l split p endian s at) (readIn l split p endian t at)
-listed-took true split p endian s t at h = location-took split p endian s t at h
-listed-took false split p endian s t at h = range-took p endian s t at h
+pub listed-took : (l split : Bool) (encoding : Encoding) (endian : RunTimeEndian) (s t : List ℕ) (at : ℕ) → at < length s
+    → Took (at + 1) at s t (readIn l split encoding endian s at) (readIn l split encoding endian t at)
+listed-took true split encoding endian s t at h = location-took split encoding endian s t at h
+listed-took false split encoding endian s t at h = range-took encoding endian s t at h
 
-pub listed-past : (l split : Bool) (p : Encoding) (endian : RunTimeEndian) (s : List ℕ) (at : ℕ) → at < length s → Moved at (length s) (readIn l split p endian s at)
-listed-past l split p endian s at h = moved-of s at (readIn l split p endian s at) (listed-took l split p endian s s at h)
+pub listed-past : (l split : Bool) (encoding : Encoding) (endian : RunTimeEndian) (s : List ℕ) (at : ℕ) → at < length s → Moved at (length s) (readIn l split encoding endian s at)
+listed-past l split encoding endian s at h = moved-of s at (readIn l split encoding endian s at) (listed-took l split encoding endian s s at h)
 
-pub listed-alike : (l split : Bool) (p : Encoding) (endian : RunTimeEndian) (s t : List ℕ) (at : ℕ) → Agree at (length s) s t
-    → readIn l split p endian s at ≡ readIn l split p endian t at
-listed-alike true split p endian s t at a = raw-same (locationEntry split p endian at) s t at a
-listed-alike false split p endian s t at a = raw-same (rangeEntry p endian) s t at a
+pub listed-alike : (l split : Bool) (encoding : Encoding) (endian : RunTimeEndian) (s t : List ℕ) (at : ℕ) → Agree at (length s) s t
+    → readIn l split encoding endian s at ≡ readIn l split encoding endian t at
+listed-alike true split encoding endian s t at a = raw-same (locationEntry split encoding endian at) s t at a
+listed-alike false split encoding endian s t at a = raw-same (rangeEntry encoding endian) s t at a

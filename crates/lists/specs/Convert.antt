@@ -38,11 +38,11 @@ pub data Turn : Type 0 where
   rebase : ℕ → Turn
   skip : Turn
 
-abbrev pub told : Converted → Result Turn
-told (code.Range r) = gives (range (r .begin) (r .end))
-told (code.Base a) = gives (rebase a)
-told code.Skip = gives skip
-told (code.Refused e) = refusal e
+abbrev pub toldTurn : Converted → Result Turn
+toldTurn (code.Range r) = gives (range (r .begin) (r .end))
+toldTurn (code.Base a) = gives (rebase a)
+toldTurn code.Skip = gives skip
+toldTurn (code.Refused e) = refusal e
 
 -- a range is skipped when its begin is at or above the tombstone bound, or not below its end. gimli's reason: DWARF's tombstones are
 -- the two highest addresses, but linkers write 0 or 1 too, which may be real addresses and are not skipped as such; a pair of which
@@ -58,7 +58,7 @@ offsets size base b e =
 -- what the code has of an entry before its range is looked at
 abbrev pub toldUnchecked : ℕ → Unchecked → Result Turn
 toldUnchecked size (unchecked.Range b e) = bounded size b e
-toldUnchecked size (unchecked.Other r) = told r
+toldUnchecked size (unchecked.Other r) = toldTurn r
 
 -- a refusal handed on by the code
 abbrev pub passedOf : AddressAnswer → Unchecked

@@ -66,8 +66,8 @@ abbrev pub LocationInBounds : ℕ → RawLocListEntry → ℕ → ℕ → Type 0
 LocationInBounds size x b e = InBoundsOr (isDefault x) size b e
 
 -- a list whose ranges carry the entries that they come from, in place of what the list makes of them
-abbrev pub whole : Listing → Listing
-whole l = record { Entry = l .Entry; Carried = l .Entry; read = l .read; boundsOf = l .boundsOf; carried = λ e. e }
+abbrev pub withEntries : Listing → Listing
+withEntries l = record { Entry = l .Entry; Carried = l .Entry; read = l .read; boundsOf = l .boundsOf; carried = λ e. e }
 
 -- what is carried, made into something else
 abbrev pub carrying : {D C : Type 0} → (D → C) → Trace D → Trace C
@@ -95,7 +95,7 @@ Yielded P (hands (refused n vs) w) = Unit
 -- every range met by walking, by the entry that it comes from: a whole walk, and a single call. That the list with its entries is
 -- the list is said beside it, so that no range can be put down to another entry
 pub record Bounded (l : Listing) (P : l .Entry → ℕ → ℕ → Type 0) (table : DebugAddrIndex → Result ℕ) (size len : ℕ) (w : Walk) : Type 0 where
-  pub same-walk : trace l table size len w ≡ carrying (l .carried) (trace (whole l) table size len w)
-  pub walk : isSize size ≡ true → Each P (trace (whole l) table size len w)
-  pub same-call : next l table size len w ≡ callCarrying (l .carried) (next (whole l) table size len w)
-  pub call : Yielded P (next (whole l) table size len w)
+  pub same-walk : trace l table size len w ≡ carrying (l .carried) (trace (withEntries l) table size len w)
+  pub walk : isSize size ≡ true → Each P (trace (withEntries l) table size len w)
+  pub same-call : next l table size len w ≡ callCarrying (l .carried) (next (withEntries l) table size len w)
+  pub call : Yielded P (next (withEntries l) table size len w)

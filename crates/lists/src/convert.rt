@@ -10,7 +10,7 @@ use entries::RawRngListEntry;
 use tables::addr::AddressAnswer;
 ghost use mathlib.Core.Path.{_≡_};
 ghost use Rattle.tables.specs.Addr.{addressAt};
-ghost use Rattle.lists.specs.Convert.{told, toldUnchecked, bounded, offsets, convert, expressionOf, passedOf, tableAt};
+ghost use Rattle.lists.specs.Convert.{toldTurn, toldUnchecked, bounded, offsets, convert, expressionOf, passedOf, tableAt};
 
 // A range, another base address, nothing, or a refused lookup.
 pub enum Converted {
@@ -29,7 +29,7 @@ enum Unchecked {
 
 // A range is skipped when its begin is at or above the tombstone bound, or not below its end.
 fn checked(begin: u64, end: u64, size: u8) -> Converted
-    ensures { λ r. ⌜ told r ≡ bounded size begin end ⌝ }
+    ensures { λ r. ⌜ toldTurn r ≡ bounded size begin end ⌝ }
 {
     if bytes::address::min_tombstone(size) <= begin {
         return Converted::Skip;
@@ -118,7 +118,7 @@ pub fn convert_entry(
     encoding: Encoding,
     endian: RunTimeEndian,
 ) -> Converted
-    ensures { λ r. ⌜ told r ≡ convert (tableAt endian encoding «debug_addr_base» (now («debug_addr» .entry))) (encoding .«address_size») «base_address» raw ⌝ }
+    ensures { λ r. ⌜ toldTurn r ≡ convert (tableAt endian encoding «debug_addr_base» (now («debug_addr» .entry))) (encoding .«address_size») «base_address» raw ⌝ }
 {
     let size = encoding.address_size;
     match range_of(raw, debug_addr, debug_addr_base, base_address, size, endian) {

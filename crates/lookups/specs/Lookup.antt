@@ -52,15 +52,15 @@ abbrev pub lookupLocation : Bool → Encoding → RunTimeEndian → List ℕ →
 lookupLocation split encoding endian s table tableBase offset base a =
     andThen (opened encoding s offset base) (lookupLocationFrom split encoding endian s table tableBase a)
 
-abbrev pub toldRange : RangeFound → Result (Found Unit)
-toldRange (range.Found r) = gives (found (item (r .begin) (r .end) tt))
-toldRange range.NotThere = gives notThere
-toldRange (range.Refused e) = refusal e
+abbrev pub toldRangeFound : RangeFound → Result (Found Unit)
+toldRangeFound (range.Found r) = gives (found (item (r .begin) (r .end) tt))
+toldRangeFound range.NotThere = gives notThere
+toldRangeFound (range.Refused e) = refusal e
 
-abbrev pub toldLocation : LocationFound → Result (Found Expression)
-toldLocation (location.Found x) = gives (found (item (x .range .begin) (x .range .end) (x .«data»)))
-toldLocation location.NotThere = gives notThere
-toldLocation (location.Refused e) = refusal e
+abbrev pub toldLocationFound : LocationFound → Result (Found Expression)
+toldLocationFound (location.Found x) = gives (found (item (x .range .begin) (x .range .end) (x .«data»)))
+toldLocationFound location.NotThere = gives notThere
+toldLocationFound (location.Refused e) = refusal e
 
 -- an answer of the code for both lists, told as its list's
 abbrev pub foundIn : (l : Bool) → Result (Found Expression) → Result (Found (CarriedIn l))

@@ -15,7 +15,7 @@ ghost use mathlib.Core.Path.{_≡_};
 ghost use mathlib.Core.Bool.{true, false};
 ghost use Rattle.bytes.specs.Common.{isSplit};
 ghost use Rattle.bytes.specs.Reader.{isSize};
-ghost use Rattle.lookups.specs.Lookup.{holds as holdsAt, foundIn, lookupFrom, toldRange, lookupRange, toldLocation, lookupLocation};
+ghost use Rattle.lookups.specs.Lookup.{holds as holdsAt, foundIn, lookupFrom, toldRangeFound, lookupRange, toldLocationFound, lookupLocation};
 
 pub enum RangeFound {
     Found(Range),
@@ -53,7 +53,7 @@ fn found_from(
     address: u64,
 ) -> LocationFound
     requires { ⌜ isSize (encoding .«address_size») ≡ true ⌝ }
-    ensures { λ r. ⌜ foundIn locations (toldLocation r) ≡ lookupFrom locations split encoding endian (now (section .entry)) (now («debug_addr» .entry)) «debug_addr_base» address start ⌝ }
+    ensures { λ r. ⌜ foundIn locations (toldLocationFound r) ≡ lookupFrom locations split encoding endian (now (section .entry)) (now («debug_addr» .entry)) «debug_addr_base» address start ⌝ }
 {
     let mut walk = start;
     loop {
@@ -86,7 +86,7 @@ fn found_from(
 
 // A location found, without what it carries.
 fn range_found(r: LocationFound) -> RangeFound
-    ensures { λ q. ⌜ toldRange q ≡ foundIn false (toldLocation r) ⌝ }
+    ensures { λ q. ⌜ toldRangeFound q ≡ foundIn false (toldLocationFound r) ⌝ }
 {
     match r {
         LocationFound::Found(x) => {
@@ -110,7 +110,7 @@ pub fn lookup_range(
     endian: RunTimeEndian,
     address: u64,
 ) -> RangeFound
-    ensures { λ r. ⌜ toldRange r ≡ lookupRange encoding endian (now (section .entry)) (now («debug_addr» .entry)) «debug_addr_base» (offset .0) «base_address» address ⌝ }
+    ensures { λ r. ⌜ toldRangeFound r ≡ lookupRange encoding endian (now (section .entry)) (now («debug_addr» .entry)) «debug_addr_base» (offset .0) «base_address» address ⌝ }
 {
     match lists::rnglists::ranges(section, offset, encoding, base_address) {
         Opened::Refused(e) => RangeFound::Refused(e),
@@ -144,7 +144,7 @@ pub fn lookup_location(
     file_type: DwarfFileType,
     address: u64,
 ) -> LocationFound
-    ensures { λ r. ⌜ toldLocation r ≡ lookupLocation (isSplit «file_type») encoding endian (now (section .entry)) (now («debug_addr» .entry)) «debug_addr_base» (offset .0) «base_address» address ⌝ }
+    ensures { λ r. ⌜ toldLocationFound r ≡ lookupLocation (isSplit «file_type») encoding endian (now (section .entry)) (now («debug_addr» .entry)) «debug_addr_base» (offset .0) «base_address» address ⌝ }
 {
     match lists::loclists::locations(section, offset, encoding, base_address) {
         Opened::Refused(e) => LocationFound::Refused(e),

@@ -39,22 +39,22 @@ use Rattle.bytes.proofs.Inside.{then-ind, skip-inside, part-fits}
 use Rattle.tables.proofs.HeaderLaws.{got-is, head-is, head-fits, head-then, no-head-then}
 
 -- the address of an index, by the place of its row
-module _ (o : RunTimeEndian) (size : ℕ) (base : DebugAddrBase) (index : DebugAddrIndex) (s : List ℕ) {r : Place}
-    (p : toldPlace r ≡ rowAt (base .0) (index .0) size s) where
-  pub no-entry : {e : Error} → r ≡ place.Refused e → addressAt o size base index s ≡ refusal e
+module _ (endian : RunTimeEndian) (size : ℕ) (tableBase : DebugAddrBase) (index : DebugAddrIndex) (s : List ℕ) {r : Place}
+    (p : toldPlace r ≡ rowAt (tableBase .0) (index .0) size s) where
+  pub no-entry : {e : Error} → r ≡ place.Refused e → addressAt endian size tableBase index s ≡ refusal e
   unfolding addressAt
   no-entry q = no-place-then _ p q
 
   module _ {c : ℕ} (q : r ≡ place.At c) where
-    by-address : addressAt o size base index s ≡ readThen (address o size s c) (λ a _. gives a)
+    by-address : addressAt endian size tableBase index s ≡ readThen (address endian size s c) (λ a _. gives a)
     unfolding addressAt
     by-address = at-then _ p q
 
-    module _ {t : Num} (k : told t ≡ address o size s c) where
-      pub no-address : {e : Error} → t ≡ num.Refused e → addressAt o size base index s ≡ refusal e
+    module _ {t : Num} (k : told t ≡ address endian size s c) where
+      pub no-address : {e : Error} → t ≡ num.Refused e → addressAt endian size tableBase index s ≡ refusal e
       no-address w = by-address ∙ rw (← k, w)
 
-      pub address-found : {a d : ℕ} → t ≡ num.Got a d → addressAt o size base index s ≡ gives a
+      pub address-found : {a d : ℕ} → t ≡ num.Got a d → addressAt endian size tableBase index s ≡ gives a
       address-found w = by-address ∙ rw (← k, w)
 
 -- an address of a table is below 2^(8 * size)
@@ -62,12 +62,12 @@ abbrev Below : ℕ → Result ℕ → Type 0
 Below n (gives a) = a < n
 Below n (refused k vs) = Unit
 
-pub address-at-lt : (o : RunTimeEndian) (size : ℕ) (base : DebugAddrBase) (index : DebugAddrIndex) (s : List ℕ) {a : ℕ}
-    → ((i : ℕ) → getD s i 0 < 256) → addressAt o size base index s ≡ gives a → a < 2 ^ (8 * size)
+pub address-at-lt : (endian : RunTimeEndian) (size : ℕ) (tableBase : DebugAddrBase) (index : DebugAddrIndex) (s : List ℕ) {a : ℕ}
+    → ((i : ℕ) → getD s i 0 < 256) → addressAt endian size tableBase index s ≡ gives a → a < 2 ^ (8 * size)
 unfolding addressAt
-address-at-lt o size base index s b e =
-    subst (Below (2 ^ (8 * size))) e (then-ind (Below (2 ^ (8 * size))) (rowAt (base .0) (index .0) size s) _ (λ k vs. tt) (λ v c z.
-    then-ind (Below (2 ^ (8 * size))) (address o size s c) _ (λ k vs. tt) (λ a d y. address-lt o size s c b y)))
+address-at-lt endian size tableBase index s b e =
+    subst (Below (2 ^ (8 * size))) e (then-ind (Below (2 ^ (8 * size))) (rowAt (tableBase .0) (index .0) size s) _ (λ k vs. tt) (λ v c z.
+    then-ind (Below (2 ^ (8 * size))) (address endian size s c) _ (λ k vs. tt) (λ a d y. address-lt endian size s c b y)))
 
 -- the bytes that bring a header to a multiple of a size
 pub no-padding : (n size : ℕ) → size ≡ 0 → 0 ≡ padding n size
@@ -83,22 +83,22 @@ pub over-le : (n size : ℕ) → (size ≡ 0 → ⊥) → n % size ≤ size
 over-le n size z = omega (arith, mod-lt n {m = size} (omega arith))
 
 -- a table's header, by its fields
-module _ (o : RunTimeEndian) (s : List ℕ) (at : ℕ) {r : HeadAnswer} (p : toldHead r ≡ head o s at) where
-  pub no-head : {e : Error} → r ≡ answer.Refused e → addrHeader o s at ≡ refusal e
+module _ (endian : RunTimeEndian) (s : List ℕ) (at : ℕ) {r : HeadAnswer} (p : toldHead r ≡ head endian s at) where
+  pub no-head : {e : Error} → r ≡ answer.Refused e → addrHeader endian s at ≡ refusal e
   unfolding addrHeader
   no-head q = no-head-then _ p q
 
   module _ {h : Head} {c : ℕ} (q : r ≡ answer.Got h c) where
     pub unit-of : h .end ≡ length (take (h .end) s)
-    unit-of = sym (length-take-le (h .end) s (head-fits o s at (head-is p q) .inside))
+    unit-of = sym (length-take-le (h .end) s (head-fits endian s at (head-is p q) .inside))
 
     module _ {n m : ℕ} (a : n ≡ initialLengthSize (h .format)) (b : m ≡ padding (n + 4) (h .«address_size»)) where
-      by-padding : addrHeader o s at ≡ readThen (skip m (take (h .end) s) c) (λ _ d. gives (got (tableOf at h d) (h .end)))
+      by-padding : addrHeader endian s at ≡ readThen (skip m (take (h .end) s) c) (λ _ d. gives (got (tableOf at h d) (h .end)))
       unfolding addrHeader
       by-padding = head-then _ p q ∙ rw (b, a)
 
       module _ {t : Place} (k : toldPlace t ≡ skip m (take (h .end) s) c) where
-        pub padding-past : {e : Error} → t ≡ place.Refused e → addrHeader o s at ≡ refusal e
+        pub padding-past : {e : Error} → t ≡ place.Refused e → addrHeader endian s at ≡ refusal e
         padding-past w = by-padding ∙ no-place-then _ k w
 
         module _ {d : ℕ} (w : t ≡ place.At d) where
@@ -107,25 +107,25 @@ module _ (o : RunTimeEndian) (s : List ℕ) (at : ℕ) {r : HeadAnswer} (p : tol
               let e : skip m (take (h .end) s) c ≡ gives (got tt d) = sym k ∙ rw w in
               omega (arith, unit-of, skip-inside m (take (h .end) s) c e .1)
 
-          pub table-got : addrHeader o s at ≡ gives (got (tableOf at h d) (h .end))
+          pub table-got : addrHeader endian s at ≡ gives (got (tableOf at h d) (h .end))
           table-got = by-padding ∙ at-then _ k w
 
 -- the walk over headers
-module _ (o : RunTimeEndian) (s : List ℕ) (w : AddrHeaderIter) where
-  pub headers-end : length s ≤ w .at → nextHeader o s w ≡ ends w
+module _ (endian : RunTimeEndian) (s : List ℕ) (w : AddrHeaderIter) where
+  pub headers-end : length s ≤ w .at → nextHeader endian s w ≡ ends w
   unfolding nextHeader
   headers-end h = simp (le-leb (length s) (w .at) h)
 
   module _ (l : w .at < length s) where
-    by-header : nextHeader o s w ≡ onHeader (length s) (addrHeader o s (w .at))
+    by-header : nextHeader endian s w ≡ onHeader (length s) (addrHeader endian s (w .at))
     unfolding nextHeader
     by-header = simp (lt-leb (length s) (w .at) l)
 
-    module _ {r : AddrHeaderAnswer} (p : toldHeader r ≡ addrHeader o s (w .at)) where
-      pub next-header : {h : AddrHeader} {c : ℕ} → r ≡ header.Header h c → nextHeader o s w ≡ hands (gives h) (headersAt c)
+    module _ {r : AddrHeaderAnswer} (p : toldHeader r ≡ addrHeader endian s (w .at)) where
+      pub next-header : {h : AddrHeader} {c : ℕ} → r ≡ header.Header h c → nextHeader endian s w ≡ hands (gives h) (headersAt c)
       next-header q = by-header ∙ rw (← p, q)
 
-      pub header-refused : {e : Error} → r ≡ header.Refused e → nextHeader o s w ≡ hands (refusal e) (headersAt (length s))
+      pub header-refused : {e : Error} → r ≡ header.Refused e → nextHeader endian s w ≡ hands (refusal e) (headersAt (length s))
       header-refused q = by-header ∙ rw (← p, q)
 
 -- the walk at the end of its part, as the code makes it
@@ -133,8 +133,8 @@ abbrev pub emptied : AddrEntryIter → AddrEntryIter
 emptied w = record { entries = record { offset = w .entries .offset + w .entries .len; len = 0 }; encoding = w .encoding }
 
 -- the walk over the addresses of a table
-module _ (o : RunTimeEndian) (s : List ℕ) (w : AddrEntryIter) {part : List ℕ} (k : part ≡ partOf s (w .entries .offset) (w .entries .len)) where
-  pub entries-end : length part ≡ 0 → nextEntry o s w ≡ ends w
+module _ (endian : RunTimeEndian) (s : List ℕ) (w : AddrEntryIter) {part : List ℕ} (k : part ≡ partOf s (w .entries .offset) (w .entries .len)) where
+  pub entries-end : length part ≡ 0 → nextEntry endian s w ≡ ends w
   unfolding nextEntry
   entries-end z = rw (← k) (let l : length part ≤ 0 = omega arith in simp (le-leb (length part) 0 l))
 
@@ -142,19 +142,19 @@ module _ (o : RunTimeEndian) (s : List ℕ) (w : AddrEntryIter) {part : List ℕ
     pub entries-fit : (w .entries .offset + w .entries .len ≤ length s) × (length part ≡ w .entries .len)
     entries-fit = let f = part-fits s (w .entries .offset) (w .entries .len) (λ e. z (ap length k ∙ e)) in (f .0, ap length k ∙ f .1)
 
-    by-entry : nextEntry o s w ≡ onEntry w (address o (w .encoding .«address_size») part 0)
+    by-entry : nextEntry endian s w ≡ onEntry w (address endian (w .encoding .«address_size») part 0)
     unfolding nextEntry
     by-entry = rw (← k) (let l : 0 < length part = omega arith in simp (lt-leb (length part) 0 l))
 
-    module _ {r : Num} (p : told r ≡ address o (w .encoding .«address_size») part 0) where
-      pub next-entry : {a c : ℕ} → r ≡ num.Got a c → nextEntry o s w ≡ hands (gives a) (movedOn w c)
+    module _ {r : Num} (p : told r ≡ address endian (w .encoding .«address_size») part 0) where
+      pub next-entry : {a c : ℕ} → r ≡ num.Got a c → nextEntry endian s w ≡ hands (gives a) (movedOn w c)
       next-entry q = by-entry ∙ rw (← p, q)
 
       pub entry-inside : {a c : ℕ} → r ≡ num.Got a c → c ≤ w .entries .len
       entry-inside {a} {c} q =
           let e = got-is p q in
-          let i : c ≤ length part = (rw e at (address-took part part (w .encoding .«address_size») 0 o)) .1 in
+          let i : c ≤ length part = (rw e at (address-took part part (w .encoding .«address_size») 0 endian)) .1 in
           omega (arith, entries-fit .1)
 
-      pub entry-refused : {e : Error} → r ≡ num.Refused e → nextEntry o s w ≡ hands (refusal e) (emptied w)
+      pub entry-refused : {e : Error} → r ≡ num.Refused e → nextEntry endian s w ≡ hands (refusal e) (emptied w)
       entry-refused q = let z : w .entries .len - w .entries .len ≡ 0 = omega arith in by-entry ∙ rw (← p, q, z)

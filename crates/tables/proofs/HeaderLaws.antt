@@ -41,8 +41,8 @@ pub head-is : {r : HeadAnswer} {d : Read Head} {h : Head} {c : ℕ} → toldHead
 head-is p q = sym p ∙ rw q
 
 module _ (n : ℕ) (s : List ℕ) (at : ℕ) where
-  pub uint-inside : (o : RunTimeEndian) {v c : ℕ} → uint o n s at ≡ gives (got v c) → c ≤ length s
-  uint-inside o e = (rw e at (uint-took s s n at o)) .1
+  pub uint-inside : (endian : RunTimeEndian) {v c : ℕ} → uint endian n s at ≡ gives (got v c) → c ≤ length s
+  uint-inside endian e = (rw e at (uint-took s s n at endian)) .1
 
 module _ (s : List ℕ) (at : ℕ) where
   -- a size that was read is a byte
@@ -68,25 +68,25 @@ within-inside : (s : List ℕ) (end : ℕ) (r : Read Head) → end ≤ length s 
 within-inside s end (gives (got h c)) l w = record { inside = omega arith; before = omega arith; size = w .2 }
 within-inside s end (refused k vs) l w = tt
 
-fields-within : (o : RunTimeEndian) (unit : List ℕ) (u : UnitLength) (at : ℕ) → Within (length unit) (fields o unit u at)
+fields-within : (endian : RunTimeEndian) (unit : List ℕ) (u : UnitLength) (at : ℕ) → Within (length unit) (fields endian unit u at)
 unfolding fields
-fields-within o unit u at =
-    then-ind (Within (length unit)) (uint o 2 unit at) _ (λ k vs. tt) (λ v c e.
+fields-within endian unit u at =
+    then-ind (Within (length unit)) (uint endian 2 unit at) _ (λ k vs. tt) (λ v c e.
     pick-ind (Within (length unit)) (eqb v 5) (λ h.
     then-ind (Within (length unit)) (addressSize unit c) _ (λ k vs. tt) (λ size d z.
     then-ind (Within (length unit)) (uint Little 1 unit d) _ (λ k vs. tt) (λ g b y.
     pick-ind (Within (length unit)) (eqb g 0) (λ x. (refl, uint-inside 1 unit d Little y, address-size-is unit c z)) (λ x. tt)))) (λ h. tt))
 
-head-inside : (o : RunTimeEndian) (s : List ℕ) (at : ℕ) → Inside s (head o s at)
+head-inside : (endian : RunTimeEndian) (s : List ℕ) (at : ℕ) → Inside s (head endian s at)
 unfolding head
-head-inside o s at =
-    then-ind (Inside s) (initialLength o s at) _ (λ k vs. tt) (λ u c e.
+head-inside endian s at =
+    then-ind (Inside s) (initialLength endian s at) _ (λ k vs. tt) (λ u c e.
     then-ind (Inside s) (truncate (u .length) s c) _ (λ k vs. tt) (λ end d z.
     let l = truncate-inside (u .length) s c z .1 in
-    within-inside s end (fields o (take end s) u d) l (rw (length-take-le end s l) at (fields-within o (take end s) u d))))
+    within-inside s end (fields endian (take end s) u d) l (rw (length-take-le end s l) at (fields-within endian (take end s) u d))))
 
-pub head-fits : (o : RunTimeEndian) (s : List ℕ) (at : ℕ) {h : Head} {c : ℕ} → head o s at ≡ gives (got h c) → Fits s h c
-head-fits o s at e = rw e at (head-inside o s at)
+pub head-fits : (endian : RunTimeEndian) (s : List ℕ) (at : ℕ) {h : Head} {c : ℕ} → head endian s at ≡ gives (got h c) → Fits s h c
+head-fits endian s at e = rw e at (head-inside endian s at)
 
 -- fields taken apart: they go on, or their refusal is the answer
 module _ {B : Type 0} {r : HeadAnswer} {d : Read Head} (f : Head → ℕ → Result B) (p : toldHead r ≡ d) where
@@ -112,44 +112,44 @@ afterSize unit u size d =
     readThen (uint Little 1 unit d) (λ segment e.
     pick (eqb segment 0) (gives (got (headOf u (length unit) size) e)) (refusal (UnsupportedSegmentSize segment)))
 
-module _ (o : RunTimeEndian) (unit : List ℕ) (u : UnitLength) (at : ℕ) {r : Num} (p : told r ≡ uint o 2 unit at) where
-  pub no-version : {a : HeadAnswer} {e : Error} → a ≡ passedHead r → r ≡ num.Refused e → fields o unit u at ≡ toldHead a
+module _ (endian : RunTimeEndian) (unit : List ℕ) (u : UnitLength) (at : ℕ) {r : Num} (p : told r ≡ uint endian 2 unit at) where
+  pub no-version : {a : HeadAnswer} {e : Error} → a ≡ passedHead r → r ≡ num.Refused e → fields endian unit u at ≡ toldHead a
   unfolding fields
   no-version k q = refused-then _ p q ∙ handed k q
 
   module _ {v c : ℕ} (q : r ≡ num.Got v c) where
-    pub other-version : (v ≡ 5 → ⊥) → fields o unit u at ≡ refusal (UnknownVersion v)
+    pub other-version : (v ≡ 5 → ⊥) → fields endian unit u at ≡ refusal (UnknownVersion v)
     unfolding fields
     other-version h = got-then _ p q ∙ simp (ne-eqb v 5 h)
 
     module _ (h : v ≡ 5) where
-      from-size : fields o unit u at ≡ readThen (addressSize unit c) (afterSize unit u)
+      from-size : fields endian unit u at ≡ readThen (addressSize unit c) (afterSize unit u)
       unfolding fields
       from-size = got-then _ p q ∙ simp (eq-eqb v 5 h)
 
       module _ {r1 : Num} (p1 : told r1 ≡ addressSize unit c) where
-        pub no-size-field : {a : HeadAnswer} {e : Error} → a ≡ passedHead r1 → r1 ≡ num.Refused e → fields o unit u at ≡ toldHead a
+        pub no-size-field : {a : HeadAnswer} {e : Error} → a ≡ passedHead r1 → r1 ≡ num.Refused e → fields endian unit u at ≡ toldHead a
         no-size-field k w = from-size ∙ refused-then _ p1 w ∙ handed k w
 
         module _ {size d : ℕ} (q1 : r1 ≡ num.Got size d) {r2 : Num} (p2 : told r2 ≡ uint Little 1 unit d) where
-          pub no-segment : {a : HeadAnswer} {e : Error} → a ≡ passedHead r2 → r2 ≡ num.Refused e → fields o unit u at ≡ toldHead a
+          pub no-segment : {a : HeadAnswer} {e : Error} → a ≡ passedHead r2 → r2 ≡ num.Refused e → fields endian unit u at ≡ toldHead a
           no-segment k w = from-size ∙ got-then _ p1 q1 ∙ refused-then _ p2 w ∙ handed k w
 
           module _ {g e : ℕ} (q2 : r2 ≡ num.Got g e) where
-            pub other-segment : (g ≡ 0 → ⊥) → fields o unit u at ≡ refusal (UnsupportedSegmentSize g)
+            pub other-segment : (g ≡ 0 → ⊥) → fields endian unit u at ≡ refusal (UnsupportedSegmentSize g)
             other-segment z = from-size ∙ got-then _ p1 q1 ∙ got-then _ p2 q2 ∙ simp (ne-eqb g 0 z)
 
-            pub fields-got : g ≡ 0 → fields o unit u at ≡ gives (got (headOf u (length unit) size) e)
+            pub fields-got : g ≡ 0 → fields endian unit u at ≡ gives (got (headOf u (length unit) size) e)
             fields-got z = from-size ∙ got-then _ p1 q1 ∙ got-then _ p2 q2 ∙ simp (eq-eqb g 0 z)
 
 -- all fields, by the length
-module _ (o : RunTimeEndian) (s : List ℕ) (at : ℕ) {r : InitialLength} (p : toldLength r ≡ initialLength o s at) where
-  pub no-unit : {e : Error} → r ≡ initial.Refused e → head o s at ≡ refusal e
+module _ (endian : RunTimeEndian) (s : List ℕ) (at : ℕ) {r : InitialLength} (p : toldLength r ≡ initialLength endian s at) where
+  pub no-unit : {e : Error} → r ≡ initial.Refused e → head endian s at ≡ refusal e
   unfolding head
   no-unit q = no-unit-then _ p q
 
   module _ {u : UnitLength} {c : ℕ} (q : r ≡ initial.Got u c) {t : Num} (k : told t ≡ truncate (u .length) s c) where
-    pub unit-past : {e : Error} → t ≡ num.Refused e → head o s at ≡ refusal e
+    pub unit-past : {e : Error} → t ≡ num.Refused e → head endian s at ≡ refusal e
     unfolding head
     unit-past w = unit-then _ p q ∙ refused-then _ k w
 
@@ -160,46 +160,46 @@ module _ (o : RunTimeEndian) (s : List ℕ) (at : ℕ) {r : InitialLength} (p : 
       pub unit-length : end ≡ length (take end s)
       unit-length = sym (length-take-le end s (cut-at .1))
 
-      pub unit-fields : head o s at ≡ fields o (take end s) u c
+      pub unit-fields : head endian s at ≡ fields endian (take end s) u c
       unfolding head
-      unit-fields = unit-then _ p q ∙ got-then _ k w ∙ ap (fields o (take end s) u) (cut-at .2)
+      unit-fields = unit-then _ p q ∙ got-then _ k w ∙ ap (fields endian (take end s) u) (cut-at .2)
 
 -- the header of a set of lists, by its fields
-module _ (o : RunTimeEndian) (s : List ℕ) (at : ℕ) {r : HeadAnswer} (p : toldHead r ≡ head o s at) where
-  pub no-fields : {e : Error} → r ≡ answer.Refused e → listsHeader o s at ≡ refusal e
+module _ (endian : RunTimeEndian) (s : List ℕ) (at : ℕ) {r : HeadAnswer} (p : toldHead r ≡ head endian s at) where
+  pub no-fields : {e : Error} → r ≡ answer.Refused e → listsHeader endian s at ≡ refusal e
   unfolding listsHeader
   no-fields q = no-head-then _ p q
 
   module _ {h : Head} {c : ℕ} (q : r ≡ answer.Got h c) where
     pub fields-fit : Fits s h c
-    fields-fit = head-fits o s at (head-is p q)
+    fields-fit = head-fits endian s at (head-is p q)
 
     pub fields-length : h .end ≡ length (take (h .end) s)
     fields-length = sym (length-take-le (h .end) s (fields-fit .inside))
 
-    module _ {t : Num} (k : told t ≡ uint o 4 (take (h .end) s) c) where
-      pub no-count : {e : Error} → t ≡ num.Refused e → listsHeader o s at ≡ refusal e
+    module _ {t : Num} (k : told t ≡ uint endian 4 (take (h .end) s) c) where
+      pub no-count : {e : Error} → t ≡ num.Refused e → listsHeader endian s at ≡ refusal e
       unfolding listsHeader
       no-count w = head-then _ p q ∙ refused-then _ k w
 
       module _ {n d : ℕ} (w : t ≡ num.Got n d) where
         pub count-inside : d ≤ h .end
-        count-inside = omega (arith, fields-length, uint-inside 4 (take (h .end) s) c o (got-is k w))
+        count-inside = omega (arith, fields-length, uint-inside 4 (take (h .end) s) c endian (got-is k w))
 
-        pub lists-got : listsHeader o s at ≡ gives (parsed (headerOf h n) (restOf h d))
+        pub lists-got : listsHeader endian s at ≡ gives (parsed (headerOf h n) (restOf h d))
         unfolding listsHeader
         lists-got = head-then _ p q ∙ got-then _ k w
 
 -- where an offset table begins
-module _ (p : Encoding) (f : DwarfFileType) where
-  pub early-base : p .version < 5 → 0 ≡ defaultBase p f
+module _ (encoding : Encoding) (f : DwarfFileType) where
+  pub early-base : encoding .version < 5 → 0 ≡ defaultBase encoding f
   unfolding defaultBase
-  early-base h = simp (lt-leb 5 (p .version) h)
+  early-base h = simp (lt-leb 5 (encoding .version) h)
 
-  pub main-base : 5 ≤ p .version → f ≡ Main → 0 ≡ defaultBase p f
+  pub main-base : 5 ≤ encoding .version → f ≡ Main → 0 ≡ defaultBase encoding f
   unfolding defaultBase
-  main-base h e = rw e (simp (le-leb 5 (p .version) h))
+  main-base h e = rw e (simp (le-leb 5 (encoding .version) h))
 
-  pub dwo-base : 5 ≤ p .version → f ≡ Dwo → headerSize p ≡ defaultBase p f
+  pub dwo-base : 5 ≤ encoding .version → f ≡ Dwo → headerSize encoding ≡ defaultBase encoding f
   unfolding defaultBase
-  dwo-base h e = rw e (simp (le-leb 5 (p .version) h))
+  dwo-base h e = rw e (simp (le-leb 5 (encoding .version) h))

@@ -64,26 +64,26 @@ module _ (base index width : ℕ) (s : List ℕ) {r : Place} (p : toldPlace r �
     row-found h = at-then _ p q ∙ simp h
 
 -- an offset, by the place of its row
-module _ (o : RunTimeEndian) (format : Format) (base index : ℕ) (s : List ℕ) {w : ℕ} (k : w ≡ wordSize format) {r : Place}
+module _ (endian : RunTimeEndian) (format : Format) (base index : ℕ) (s : List ℕ) {w : ℕ} (k : w ≡ wordSize format) {r : Place}
     (p : toldPlace r ≡ rowAt base index w s) where
-  pub no-row : {e : Error} → r ≡ place.Refused e → offsetAt o format base index s ≡ refusal e
+  pub no-row : {e : Error} → r ≡ place.Refused e → offsetAt endian format base index s ≡ refusal e
   unfolding offsetAt
   no-row q = rw (← k) (no-place-then _ p q)
 
   module _ {c : ℕ} (q : r ≡ place.At c) where
-    by-word : offsetAt o format base index s ≡ readThen (word o format s c) (λ x _. fromBase base x)
+    by-word : offsetAt endian format base index s ≡ readThen (word endian format s c) (λ x _. fromBase base x)
     unfolding offsetAt
     by-word = rw (← k) (at-then _ p q)
 
-    module _ {t : Num} (u : told t ≡ word o format s c) where
-      pub no-word : {e : Error} → t ≡ num.Refused e → offsetAt o format base index s ≡ refusal e
+    module _ {t : Num} (u : told t ≡ word endian format s c) where
+      pub no-word : {e : Error} → t ≡ num.Refused e → offsetAt endian format base index s ≡ refusal e
       no-word v = by-word ∙ rw (← u, v)
 
       module _ {x d : ℕ} (v : t ≡ num.Got x d) where
-        pub offset-past : 2 ^ 64 ≤ base + x → offsetAt o format base index s ≡ refusal UnsupportedOffset
+        pub offset-past : 2 ^ 64 ≤ base + x → offsetAt endian format base index s ≡ refusal UnsupportedOffset
         offset-past h = by-word ∙ rw (← u, v) (simp (le-leb (2 ^ 64) (base + x) h))
 
-        pub offset-found : base + x < 2 ^ 64 → offsetAt o format base index s ≡ gives (base + x)
+        pub offset-found : base + x < 2 ^ 64 → offsetAt endian format base index s ≡ gives (base + x)
         offset-found h = by-word ∙ rw (← u, v) (simp (lt-leb (2 ^ 64) (base + x) h))
 
 -- an offset that was taken apart

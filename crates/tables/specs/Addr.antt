@@ -12,7 +12,7 @@ use Rattle.bytes.specs.declared.common.DebugAddrBase.{DebugAddrBase}
 use Rattle.bytes.specs.declared.common.DebugAddrIndex.{DebugAddrIndex}
 use Rattle.bytes.specs.declared.endianity.RunTimeEndian.{RunTimeEndian}
 use Rattle.tables.specs.Header.{head}
-use Rattle.tables.specs.Lists.{encodingOf, restOf}
+use Rattle.tables.specs.Lists.{unitEncoding, restOf}
 use Rattle.tables.specs.Row.{rowAt}
 use Rattle.tables.specs.Next.{Next, ends, hands}
 use Rattle.tables.specs.declared.header.Head.{Head}
@@ -42,7 +42,7 @@ abbrev pub padding : ℕ → ℕ → ℕ
 padding header size = pick (eqb (header % size) 0) 0 (size - header % size)
 
 abbrev pub tableOf : ℕ → Head → ℕ → AddrHeader
-tableOf at h c = record { offset = record { 0 = at }; encoding = encodingOf h; length = h .length; entries = restOf h c }
+tableOf at h c = record { offset = record { 0 = at }; encoding = unitEncoding h; length = h .length; entries = restOf h c }
 
 -- a table's header, and the place after the table
 unfoldable pub addrHeader : RunTimeEndian → List ℕ → ℕ → Read AddrHeader
@@ -82,11 +82,11 @@ abbrev pub onEntry : AddrEntryIter → Read ℕ → Next ℕ AddrEntryIter
 onEntry w (gives (got a c)) = hands (gives a) (movedOn w c)
 onEntry w (refused n vs) = hands (refused n vs) (movedOn w (w .entries .len))
 
-abbrev pub nextIn : RunTimeEndian → List ℕ → AddrEntryIter → Next ℕ AddrEntryIter
-nextIn endian part w = pick (leb (length part) 0) (ends w) (onEntry w (address endian (w .encoding .«address_size») part 0))
+abbrev pub nextInPart : RunTimeEndian → List ℕ → AddrEntryIter → Next ℕ AddrEntryIter
+nextInPart endian part w = pick (leb (length part) 0) (ends w) (onEntry w (address endian (w .encoding .«address_size») part 0))
 
 unfoldable pub nextEntry : RunTimeEndian → List ℕ → AddrEntryIter → Next ℕ AddrEntryIter
-nextEntry endian s w = nextIn endian (partOf s (w .entries .offset) (w .entries .len)) w
+nextEntry endian s w = nextInPart endian (partOf s (w .entries .offset) (w .entries .len)) w
 
 abbrev pub toldNextEntry : NextEntry → Next ℕ AddrEntryIter
 toldNextEntry (entries.Address a w) = hands (gives a) w

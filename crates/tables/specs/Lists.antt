@@ -31,15 +31,15 @@ toldLists (answer.Header h r) = gives (parsed h r)
 toldLists (answer.Refused e) = refusal e
 
 -- how a unit of version 5 is written, by its fields
-abbrev pub encodingOf : Head → Encoding
-encodingOf h = record { «address_size» = h .«address_size»; format = h .format; version = 5 }
+abbrev pub unitEncoding : Head → Encoding
+unitEncoding h = record { «address_size» = h .«address_size»; format = h .format; version = 5 }
 
 -- what is left between a place and the unit's end
 abbrev pub restOf : Head → ℕ → Span
 restOf h c = record { offset = c; len = h .end - c }
 
 abbrev pub headerOf : Head → ℕ → ListsHeader
-headerOf h count = record { encoding = encodingOf h; «offset_entry_count» = count }
+headerOf h count = record { encoding = unitEncoding h; «offset_entry_count» = count }
 
 -- the fields, then four bytes that count the offsets, inside the unit
 unfoldable pub listsHeader : RunTimeEndian → List ℕ → ℕ → Result Parsed

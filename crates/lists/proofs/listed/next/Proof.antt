@@ -17,7 +17,7 @@ use Rattle.entries.specs.Listed.{entryIn, readIn, stepIn}
 use Rattle.entries.specs.Told.{toldLocation}
 use Rattle.entries.proofs.StepLaws.{step-found, step-ended, step-failed}
 use Rattle.lists.specs.Open.{walkAt}
-use Rattle.lists.specs.Convert.{told, convert, tableAt}
+use Rattle.lists.specs.Convert.{toldTurn, convert, tableAt}
 use Rattle.lists.specs.Walk.{Trace, CarriedIn, carriedIn, listed, onTurn, trace, first, next}
 use Rattle.lists.proofs.Past.{listed-past}
 use Rattle.lists.proofs.ListedLaws.{bounds-in, carried-in}
@@ -25,8 +25,9 @@ use Rattle.lists.proofs.WalkLaws.{Moved, trace-over, met-end, met-refus
 use Rattle.lists.proofs.listed.next.Statement.{statement}
 use Rattle.lists.proofs.listed.next.Tie as tie
 
-abbrev does : (l split : Bool) (p : Encoding) (o : RunTimeEndian) (s table : List ℕ) (b : DebugAddrBase) (at base : ℕ) → Trace (CarriedIn l)
-does l split p o s table b at base = trace (listed l split p o s) (tableAt o p b table) (p .«address_size») (length s) (walkAt at base)
+abbrev does : (l split : Bool) (encoding : Encoding) (endian : RunTimeEndian) (s table : List ℕ) (tableBase : DebugAddrBase) (at base : ℕ) → Trace (CarriedIn l)
+does l split encoding endian s table tableBase at base =
+    trace (listed l split encoding endian s) (tableAt endian encoding tableBase table) (encoding .«address_size») (length s) (walkAt at base)
 
 abbrev Inv-loop : tie.InvT-loop
 Inv-loop section debug-addr debug-addr-base encoding endian locations split at₀ base-address₀ size at base-address =
@@ -54,7 +55,7 @@ entry-past c = let a = c .before .before .before .before .before .before .before
 
 entry-met : (c : tie.After-convert-entry Inv-loop μ-loop) → (let a = c .before .before .before .before .before .before .before .before .before .before .before .before .before .before .args in
     does (a .locations) (a .split) (a .encoding) (a .endian) (a .section .now) (a .debug-addr .now) (a .debug-addr-base) (c .before .before .before .before .before .before .before .before .loop .at) (c .before .before .before .before .before .before .before .before .loop .base-address)
-    ≡ onTurn (told (c .convert-entry .result)) (carriedIn (a .locations) (entryIn (a .locations) (c .before .before .before .before .raw .given .0 .0))) (c .before .before .before .before .raw .given .0 .1 .0) (c .before .before .before .before .before .before .before .before .loop .base-address) (does (a .locations) (a .split) (a .encoding) (a .endian) (a .section .now) (a .debug-addr .now) (a .debug-addr-base)))
+    ≡ onTurn (toldTurn (c .convert-entry .result)) (carriedIn (a .locations) (entryIn (a .locations) (c .before .before .before .before .raw .given .0 .0))) (c .before .before .before .before .raw .given .0 .1 .0) (c .before .before .before .before .before .before .before .before .loop .base-address) (does (a .locations) (a .split) (a .encoding) (a .endian) (a .section .now) (a .debug-addr .now) (a .debug-addr-base)))
 entry-met c = met-entry _ _ _ _ (let a = c .before .before .before .before .before .before .before .before .before .before .before .before .before .before .args in listed-past (a .locations) (a .split) (a .encoding) (a .endian) (a .section .now)) _ _ (c .before .before .before .before .before .before .before .loop-test .taken) (entry-read (c .before .before .before)) (c .convert-entry .ensures ∙ ap (convert _ _ _) (c .before .before .bounds-of .ensures ∙ sym (bounds-in (c .before .before .before .before .before .before .before .before .before .before .before .before .before .before .args .locations) (c .before .before .before .before .raw .given .0 .0))))
 
 cast-size : tie.Need-cast-size Inv-loop μ-loop
