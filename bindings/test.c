@@ -472,25 +472,25 @@ static void test_lists_header(void) {
     LISTS_HEADER(NO_BYTES, LITTLE, 0, CUT_SHORT);
 }
 
-typedef yz_number get_offset(const uint8_t *, size_t, yz_encoding, uint64_t, uint64_t);
+typedef yz_number get_offset(const uint8_t *, size_t, uint64_t, yz_encoding, uint64_t);
 
 /* Base 1 and the offset there sum to 2^64. */
 #define ONES S("\xaa\xff\xff\xff\xff\xff\xff\xff\xff")
-#define OFFSET(section, encoding, base, index, ...) IS(number, get(section, encoding, base, index), __VA_ARGS__)
+#define OFFSET(section, base, encoding, index, ...) IS(number, get(section, base, encoding, index), __VA_ARGS__)
 
 static void get_offsets(get_offset *get) {
-    OFFSET(LISTS, little(5, 4), 12, 0, DONE, 20);
-    OFFSET(LISTS, little(5, 4), 12, 1, DONE, 22);
-    OFFSET(LISTS, little(5, 3), 12, 1, DONE, 22);
-    OFFSET(LISTS, little(5, 4), 12, 2, CUT_SHORT);
-    OFFSET(ONE_TO_EIGHT, big(5, 4), 0, 1, DONE, 0x05060708);
-    OFFSET(ONE_TO_EIGHT, wide(BIG), 0, 0, DONE, UINT64_C(0x0102030405060708));
-    OFFSET(ONES, wide(LITTLE), 0, 0, DONE, UINT64_C(0xffffffffffffffaa));
-    OFFSET(ONES, wide(LITTLE), 1, 0, TOO_FAR);
-    OFFSET(LISTS, little(5, 4), 0, UINT64_C(1) << 62, TOO_FAR);
-    OFFSET(LISTS, wide(LITTLE), 0, TWO_TO_61 - 1, CUT_SHORT);
-    OFFSET(LISTS, little(5, 4), MAX, MAX, CUT_SHORT);
-    OFFSET(NO_BYTES, little(5, 4), 0, 0, CUT_SHORT);
+    OFFSET(LISTS, 12, little(5, 4), 0, DONE, 20);
+    OFFSET(LISTS, 12, little(5, 4), 1, DONE, 22);
+    OFFSET(LISTS, 12, little(5, 3), 1, DONE, 22);
+    OFFSET(LISTS, 12, little(5, 4), 2, CUT_SHORT);
+    OFFSET(ONE_TO_EIGHT, 0, big(5, 4), 1, DONE, 0x05060708);
+    OFFSET(ONE_TO_EIGHT, 0, wide(BIG), 0, DONE, UINT64_C(0x0102030405060708));
+    OFFSET(ONES, 0, wide(LITTLE), 0, DONE, UINT64_C(0xffffffffffffffaa));
+    OFFSET(ONES, 1, wide(LITTLE), 0, TOO_FAR);
+    OFFSET(LISTS, 0, little(5, 4), UINT64_C(1) << 62, TOO_FAR);
+    OFFSET(LISTS, 0, wide(LITTLE), TWO_TO_61 - 1, CUT_SHORT);
+    OFFSET(LISTS, MAX, little(5, 4), MAX, CUT_SHORT);
+    OFFSET(NO_BYTES, 0, little(5, 4), 0, CUT_SHORT);
 }
 
 static void test_range_get_offset(void) { get_offsets(yz_range_get_offset); }

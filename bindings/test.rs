@@ -139,7 +139,7 @@ fn join(parts: &[&[u8]]) -> Vec<u8> {
 
 fn versions(c: &mut Checks) {
     c.same(version(), VERSION);
-    c.same(VERSION, 2);
+    c.same(VERSION, 3);
 }
 
 fn errors(c: &mut Checks) {

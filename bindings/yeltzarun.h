@@ -19,7 +19,10 @@
  *   debug_addr, debug_addr_len  the bytes of .debug_addr, in the byte order of the list; length 0 where there is none
  *   debug_addr_base             DW_AT_addr_base: where the addresses of the unit's table begin. A row past the table's end
  *                               reads what follows in the section, as gimli does
- *   encoding                    how the unit is written, or of it big_endian alone
+ *   debug_rnglists_base,        DW_AT_rnglists_base, DW_AT_loclists_base: where the offsets of the unit's table begin. A row
+ *   debug_loclists_base         past the table's end is read likewise
+ *   encoding                    how the unit is written, or of it big_endian or address_size alone; the latter stands last in
+ *                               yz_wrapping_add_sized, as in gimli
  *   file_type                   whether the section is of a .dwo file: then location lists of every version have kinds
  *   offset, or at               where the list begins in the section, or what is read
  *   base_address                DW_AT_low_pc of the unit
@@ -52,7 +55,7 @@ extern "C" {
 #endif
 
 /* The version of this interface; it changes with every change of a struct, a number or a call. */
-#define YZ_VERSION 2
+#define YZ_VERSION 3
 
 /* The version of the library that is linked; the header is for it where this is YZ_VERSION. */
 uint32_t yz_version(void);
@@ -373,18 +376,18 @@ yz_number yz_table_entry_next(const uint8_t *debug_addr, size_t debug_addr_len, 
 /* The header of .debug_rnglists or .debug_loclists at a place. Refused: 1, 5, 6, 7, 8. */
 yz_lists_header_answer yz_lists_header(const uint8_t *section, size_t section_len, bool big_endian, size_t at);
 
-/* The range list's offset that an index (DW_FORM_rnglistx) has in the table at a base (DW_AT_rnglists_base).
- * Refused: 1, 9. */
-yz_number yz_range_get_offset(const uint8_t *debug_rnglists, size_t debug_rnglists_len, yz_encoding encoding,
-                              uint64_t base, uint64_t index);
+/* The range list's offset that an index (DW_FORM_rnglistx) has in the table at a base (DW_AT_rnglists_base). A row past the
+ * table's end reads what follows in the section. Refused: 1, 9. */
+yz_number yz_range_get_offset(const uint8_t *debug_rnglists, size_t debug_rnglists_len, uint64_t debug_rnglists_base,
+                              yz_encoding encoding, uint64_t index);
 
 /* The base of .debug_rnglists where no attribute gives one: the answer itself. */
 uint64_t yz_range_default_base(yz_encoding encoding, yz_file_type file_type);
 
-/* The location list's offset that an index (DW_FORM_loclistx) has in the table at a base (DW_AT_loclists_base).
- * Refused: 1, 9. */
-yz_number yz_location_get_offset(const uint8_t *debug_loclists, size_t debug_loclists_len, yz_encoding encoding,
-                                 uint64_t base, uint64_t index);
+/* The location list's offset that an index (DW_FORM_loclistx) has in the table at a base (DW_AT_loclists_base). A row past
+ * the table's end reads what follows in the section. Refused: 1, 9. */
+yz_number yz_location_get_offset(const uint8_t *debug_loclists, size_t debug_loclists_len, uint64_t debug_loclists_base,
+                                 yz_encoding encoding, uint64_t index);
 
 /* The base of .debug_loclists where no attribute gives one: the answer itself. */
 uint64_t yz_location_default_base(yz_encoding encoding, yz_file_type file_type);
@@ -459,7 +462,8 @@ yz_count yz_location_coverage(const uint8_t *section, size_t section_len, const 
                               yz_file_type file_type, uint64_t offset, uint64_t base_address, yz_bounds *begins,
                               yz_bounds *ends);
 
-/* The coverage of a canonical list, read as a section of its own. Refused: 1, 2, 3, 9, 10. */
+/* The coverage of a canonical list, read as a section of its own. Any little-endian DWARF 5 range list of address size 8 is
+ * read so, canonical or not, also one cut between entries: yz_is_canonical is the test. Refused: 1, 2, 3, 9, 10. */
 yz_count yz_coverage_from_canonical(const uint8_t *bytes, size_t bytes_len, yz_bounds *begins, yz_bounds *ends);
 
 /* The coverage of a sheet. Refused: 12. */

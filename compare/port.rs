@@ -313,7 +313,7 @@ impl Port for Ffi {
     ) -> Result<u64, Refusal> {
         let get = if kind == Kind::Ranges { yz_range_get_offset } else { yz_location_get_offset };
         let (s, n, encoding) = (section.as_ptr(), section.len(), written(0, dwarf64, big_endian));
-        result(unsafe { get(s, n, encoding, base, index) }, |offset| offset)
+        result(unsafe { get(s, n, base, encoding, index) }, |offset| offset)
     }
 
     fn default_base(&self, kind: Kind, version: u16, dwarf64: bool, split_file: bool) -> u64 {

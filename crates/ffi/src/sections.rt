@@ -7,9 +7,9 @@ ghost use Rattle.ffi_words.specs.Sections.{TellsSection, LiesIn};
 
 #[no_mangle]
 pub extern "C" fn yz_version() -> u32
-    ensures { λ r. ⌜ r ≡ 2 ⌝ }
+    ensures { λ r. ⌜ r ≡ 3 ⌝ }
 {
-    2
+    3
 }
 
 // Whatever the two sections hold, the one that is told has the lists of the unit.
