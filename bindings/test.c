@@ -177,7 +177,7 @@ static void layout(void) {
     FIELD(walk, at, 0);
     FIELD(walk, base_address, 8);
     FIELD(walk, split, 16);
-    SIZE(bounds, 8 * 1024);
+    SIZE(bounds, 8 * YZ_LIMIT);
     SIZE(range_entry, 24);
     FIELD(range_entry, kind, 0);
     FIELD(range_entry, first, 8);
@@ -958,7 +958,7 @@ static void test_range_coverage(void) {
     COVERS(COVER(NO_BYTES, little(5, 4), 0), 0);
     COVERS(COVER(S("\0"), little(5, 4), 1), 0);
     COVERS(COVER(APART(YZ_LIMIT), little(5, 4), 0), YZ_LIMIT);
-    CHECK(range_is(0, 0, 1) && range_is(1023, 2046, 2047));
+    CHECK(range_is(0, 0, 1) && range_is(YZ_LIMIT - 1, 2 * YZ_LIMIT - 2, 2 * YZ_LIMIT - 1));
     COVERS(yz_range_coverage(S("\x09\x01\x03\0\0"), NO_BYTES, 0, big(4, 1), 1, 0x40, &begins, &ends), 1);
     CHECK(range_is(0, 0x41, 0x43));
     REFUSES_COVERAGE(COVER(APART(YZ_LIMIT + 1), little(5, 4), 0), REFUSED(YZ_TOO_MANY_RANGES, 0));
@@ -1061,7 +1061,7 @@ static void test_coverage_from_sheet(void) {
     CHECK(range_is(0, MAX - 2, MAX));
     len = make_big_sheet(YZ_LIMIT);
     COVERS(FROM_SHEET(big_sheet, len), YZ_LIMIT);
-    CHECK(range_is(0, 0, 1) && range_is(1023, 2046, 2047));
+    CHECK(range_is(0, 0, 1) && range_is(YZ_LIMIT - 1, 2 * YZ_LIMIT - 2, 2 * YZ_LIMIT - 1));
     put_u64(big_sheet + 4 + 8, 1);
     BAD_SHEET(big_sheet, len);
     len = make_big_sheet(YZ_LIMIT + 1);

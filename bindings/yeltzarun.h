@@ -4,8 +4,9 @@
  * before it. The caller sees to it that a pointer and its length name readable bytes (the pointer may be NULL where the
  * length is 0), that a pointer to a walk, a place, a part or bounds is not NULL, that what a call writes to can be written
  * and shares no byte with anything else that it is lent, and that no other thread writes what is lent. The library is for
- * x86-64. The calls over coverages take about 100 KB of stack, the others less than 1 KB. Its functions have no unwind
- * tables: they throw nothing and call nothing of the caller, but a backtrace taken inside one, as by a signal, stops there.
+ * x86-64. The calls over coverages take less than 100 * YZ_LIMIT bytes of stack, the others less than 1 KB. Its functions have
+ * no unwind tables: they throw nothing and call nothing of the caller, but a backtrace taken inside one, as by a signal, stops
+ * there.
  *
  * An answer is a struct. It begins with `result`; with YZ_REFUSED, `refusal` is the refusal's number and `refusal_value` its
  * value, 0 where it has none. Fields that the result does not name are 0. What a call may be refused with stands at the call.
@@ -81,7 +82,7 @@ typedef enum yz_refusal {
     YZ_UNSUPPORTED_SEGMENT_SIZE = 7,  /* not 0; the size */
     YZ_UNKNOWN_RESERVED_LENGTH = 8,   /* an initial length from 0xfffffff0 to 0xfffffffe; the length */
     YZ_UNSUPPORTED_OFFSET = 9,        /* a product or a sum is at or above 2^64 */
-    YZ_TOO_MANY_RANGES = 10,          /* the 1,025th yielded range is met */
+    YZ_TOO_MANY_RANGES = 10,          /* a yielded range past YZ_LIMIT is met */
     YZ_NO_SPACE = 11,                 /* the output is shorter than the result */
     YZ_BAD_SHEET = 12                 /* no lawful sheet */
 } yz_refusal;

@@ -1,13 +1,14 @@
 //! The port through its C interface, as `bindings/yeltzarun.h` tells it.
 
-// The declarations of the wrapper, which take LIMIT from here.
+// The declarations of the wrapper.
 #[allow(dead_code)]
 #[path = "../bindings/yeltzarun/ffi.rs"]
 #[rustfmt::skip]
 mod ffi;
 
-use crate::added::{Added, Kept, MOST as LIMIT, Wrote};
+use crate::added::{Added, Kept, Wrote};
 use crate::differ::{Found, Port};
+pub use ffi::LIMIT;
 use ffi::*;
 use oracle::oracle_api::{
     Answer, Converted, Form, Kind, List, Lists, Place, Raw, Refusal, State, Table, Yielded,

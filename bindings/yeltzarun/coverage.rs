@@ -2,11 +2,9 @@
 
 use super::ffi;
 use super::reader::part;
-use super::{Error, Range, Result};
+use super::{Error, LIMIT, Range, Result};
 use core::fmt;
 
-/// How many ranges a [`Coverage`] holds at most.
-pub const LIMIT: usize = 1024;
 /// A sheet has at most this many bytes.
 pub const SHEET_MAX: usize = 4 + 16 * LIMIT;
 /// A canonical list has at most this many bytes.

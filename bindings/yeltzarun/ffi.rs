@@ -1,8 +1,11 @@
 //! The calls of the library and what they pass, as in yeltzarun.h. A slice is a pointer and a
 //! length.
 
+/// How many ranges a coverage holds at most.
+pub const LIMIT: usize = 1024;
+
 pub type Ptr = *const u8;
-pub type Bounds = [u64; super::LIMIT];
+pub type Bounds = [u64; LIMIT];
 
 /// What a call comes to.
 pub const DONE: u32 = 0;
