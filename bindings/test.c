@@ -177,7 +177,7 @@ static void layout(void) {
     FIELD(walk, at, 0);
     FIELD(walk, base_address, 8);
     FIELD(walk, split, 16);
-    SIZE(bounds, 8 * 1024);
+    SIZE(bounds, 8 * YZ_LIMIT);
     SIZE(range_entry, 24);
     FIELD(range_entry, kind, 0);
     FIELD(range_entry, first, 8);
@@ -472,25 +472,25 @@ static void test_lists_header(void) {
     LISTS_HEADER(NO_BYTES, LITTLE, 0, CUT_SHORT);
 }
 
-typedef yz_number get_offset(const uint8_t *, size_t, yz_encoding, uint64_t, uint64_t);
+typedef yz_number get_offset(const uint8_t *, size_t, uint64_t, yz_encoding, uint64_t);
 
 /* Base 1 and the offset there sum to 2^64. */
 #define ONES S("\xaa\xff\xff\xff\xff\xff\xff\xff\xff")
-#define OFFSET(section, encoding, base, index, ...) IS(number, get(section, encoding, base, index), __VA_ARGS__)
+#define OFFSET(section, base, encoding, index, ...) IS(number, get(section, base, encoding, index), __VA_ARGS__)
 
 static void get_offsets(get_offset *get) {
-    OFFSET(LISTS, little(5, 4), 12, 0, DONE, 20);
-    OFFSET(LISTS, little(5, 4), 12, 1, DONE, 22);
-    OFFSET(LISTS, little(5, 3), 12, 1, DONE, 22);
-    OFFSET(LISTS, little(5, 4), 12, 2, CUT_SHORT);
-    OFFSET(ONE_TO_EIGHT, big(5, 4), 0, 1, DONE, 0x05060708);
-    OFFSET(ONE_TO_EIGHT, wide(BIG), 0, 0, DONE, UINT64_C(0x0102030405060708));
-    OFFSET(ONES, wide(LITTLE), 0, 0, DONE, UINT64_C(0xffffffffffffffaa));
-    OFFSET(ONES, wide(LITTLE), 1, 0, TOO_FAR);
-    OFFSET(LISTS, little(5, 4), 0, UINT64_C(1) << 62, TOO_FAR);
-    OFFSET(LISTS, wide(LITTLE), 0, TWO_TO_61 - 1, CUT_SHORT);
-    OFFSET(LISTS, little(5, 4), MAX, MAX, CUT_SHORT);
-    OFFSET(NO_BYTES, little(5, 4), 0, 0, CUT_SHORT);
+    OFFSET(LISTS, 12, little(5, 4), 0, DONE, 20);
+    OFFSET(LISTS, 12, little(5, 4), 1, DONE, 22);
+    OFFSET(LISTS, 12, little(5, 3), 1, DONE, 22);
+    OFFSET(LISTS, 12, little(5, 4), 2, CUT_SHORT);
+    OFFSET(ONE_TO_EIGHT, 0, big(5, 4), 1, DONE, 0x05060708);
+    OFFSET(ONE_TO_EIGHT, 0, wide(BIG), 0, DONE, UINT64_C(0x0102030405060708));
+    OFFSET(ONES, 0, wide(LITTLE), 0, DONE, UINT64_C(0xffffffffffffffaa));
+    OFFSET(ONES, 1, wide(LITTLE), 0, TOO_FAR);
+    OFFSET(LISTS, 0, little(5, 4), UINT64_C(1) << 62, TOO_FAR);
+    OFFSET(LISTS, 0, wide(LITTLE), TWO_TO_61 - 1, CUT_SHORT);
+    OFFSET(LISTS, MAX, little(5, 4), MAX, CUT_SHORT);
+    OFFSET(NO_BYTES, 0, little(5, 4), 0, CUT_SHORT);
 }
 
 static void test_range_get_offset(void) { get_offsets(yz_range_get_offset); }
@@ -958,7 +958,7 @@ static void test_range_coverage(void) {
     COVERS(COVER(NO_BYTES, little(5, 4), 0), 0);
     COVERS(COVER(S("\0"), little(5, 4), 1), 0);
     COVERS(COVER(APART(YZ_LIMIT), little(5, 4), 0), YZ_LIMIT);
-    CHECK(range_is(0, 0, 1) && range_is(1023, 2046, 2047));
+    CHECK(range_is(0, 0, 1) && range_is(YZ_LIMIT - 1, 2 * YZ_LIMIT - 2, 2 * YZ_LIMIT - 1));
     COVERS(yz_range_coverage(S("\x09\x01\x03\0\0"), NO_BYTES, 0, big(4, 1), 1, 0x40, &begins, &ends), 1);
     CHECK(range_is(0, 0x41, 0x43));
     REFUSES_COVERAGE(COVER(APART(YZ_LIMIT + 1), little(5, 4), 0), REFUSED(YZ_TOO_MANY_RANGES, 0));
@@ -1061,7 +1061,7 @@ static void test_coverage_from_sheet(void) {
     CHECK(range_is(0, MAX - 2, MAX));
     len = make_big_sheet(YZ_LIMIT);
     COVERS(FROM_SHEET(big_sheet, len), YZ_LIMIT);
-    CHECK(range_is(0, 0, 1) && range_is(1023, 2046, 2047));
+    CHECK(range_is(0, 0, 1) && range_is(YZ_LIMIT - 1, 2 * YZ_LIMIT - 2, 2 * YZ_LIMIT - 1));
     put_u64(big_sheet + 4 + 8, 1);
     BAD_SHEET(big_sheet, len);
     len = make_big_sheet(YZ_LIMIT + 1);

@@ -139,7 +139,7 @@ fn join(parts: &[&[u8]]) -> Vec<u8> {
 
 fn versions(c: &mut Checks) {
     c.same(version(), VERSION);
-    c.same(VERSION, 2);
+    c.same(VERSION, 3);
 }
 
 fn errors(c: &mut Checks) {
@@ -961,8 +961,8 @@ fn is(coverage: Result<Coverage>) -> Result<Vec<Range>> {
 }
 
 /// Entries `07 begin 01` of size 4, each begin two above the one before.
-fn apart(n: u32) -> Vec<u8> {
-    (0..n).flat_map(|i| join(&[&[7], &(0x10 + 2 * i).to_le_bytes(), &[1]])).collect()
+fn apart(n: usize) -> Vec<u8> {
+    (0..n as u32).flat_map(|i| join(&[&[7], &(0x10 + 2 * i).to_le_bytes(), &[1]])).collect()
 }
 
 /// The scope's two ranges that touch: 0x20 to 0x30 and 0x10 to 0x20.
@@ -985,13 +985,14 @@ fn range_coverage(c: &mut Checks) {
     c.same(cover(&[6, 1, 9, 6, 2, 3, 6, 8, 10, 0], 1, 0), Ok(vec![at(1, 10)]));
     c.same(cover(&[], 4, 0), Ok(vec![]));
     c.same(cover(&[0], 4, 0), Ok(vec![]));
-    let full = cover(&apart(1024), 4, 0).map(|ranges| (ranges.len(), ranges[0], ranges[1023]));
-    c.same(full, Ok((1024, at(0x10, 0x11), at(0x80e, 0x80f))));
-    let same = [7, 0x10, 0, 0, 0, 1].repeat(1024);
+    let full = cover(&apart(LIMIT), 4, 0).map(|all| (all.len(), all[0], all[LIMIT - 1]));
+    let end = 0x10 + 2 * LIMIT as u64;
+    c.same(full, Ok((LIMIT, at(0x10, 0x11), at(end - 2, end - 1))));
+    let same = [7, 0x10, 0, 0, 0, 1].repeat(LIMIT);
     c.same(cover(&same, 4, 0), Ok(vec![at(0x10, 0x11)]));
-    c.same(cover(&[7, 0x10, 0, 0, 0, 1].repeat(1025), 4, 0), Err(Error::TooManyRanges));
-    c.same(cover(&join(&[&apart(1025), &[8]]), 4, 0), Err(Error::TooManyRanges));
-    c.same(cover(&join(&[&apart(1024), &[8]]), 4, 0), Err(Error::UnknownRangeListsEntry(8)));
+    c.same(cover(&[7, 0x10, 0, 0, 0, 1].repeat(LIMIT + 1), 4, 0), Err(Error::TooManyRanges));
+    c.same(cover(&join(&[&apart(LIMIT + 1), &[8]]), 4, 0), Err(Error::TooManyRanges));
+    c.same(cover(&join(&[&apart(LIMIT), &[8]]), 4, 0), Err(Error::UnknownRangeListsEntry(8)));
     c.same(cover(&[2, 0, 2, 0], 4, 0), Err(EOF));
     c.same(cover(TOUCHING, 4, u64::MAX), Err(EOF));
     c.same(cover(TOUCHING, 3, u64::MAX), Err(Error::UnsupportedAddressSize(3)));
@@ -1021,8 +1022,8 @@ fn location_coverage(c: &mut Checks) {
     c.same(cover(&[], 4, main), Ok(vec![]));
     c.same(cover(&[9], 5, main), Err(Error::UnknownLocListsEntry(9)));
     c.same(cover(&[3, 2, 8, 0, 0, 0, 0, 0], 4, dwo), Err(EOF));
-    c.same(cover(&[5, 0].repeat(1025), 5, main), Err(Error::TooManyRanges));
-    c.same(cover(&[5, 0].repeat(1024), 5, main), Ok(vec![at(0, u64::MAX)]));
+    c.same(cover(&[5, 0].repeat(LIMIT + 1), 5, main), Err(Error::TooManyRanges));
+    c.same(cover(&[5, 0].repeat(LIMIT), 5, main), Ok(vec![at(0, u64::MAX)]));
     let (lists, none) = (location_lists(&[9, 4, 1, 2, 0, 0], Little), DebugAddr::default());
     let (offset, five, base) = (LocationListsOffset(1), encoding(5, 4), DebugAddrBase(0));
     let coverage = lists.coverage(offset, five, main, 0x100, &none, base);
@@ -1039,7 +1040,7 @@ fn coverage_from_canonical(c: &mut Checks) {
     c.same(cover(&join(&[&[3], &INDEX_2_61, &[8, 0]])), Err(Error::UnsupportedOffset));
     c.same(cover(&join(&[&[4], &NINE, &[2]])), Err(Error::BadUnsignedLeb128));
     c.same(cover(&[8]), Err(Error::UnknownRangeListsEntry(8)));
-    c.same(cover(&TOUCHING_CANONICAL[..10].repeat(1025)), Err(Error::TooManyRanges));
+    c.same(cover(&TOUCHING_CANONICAL[..10].repeat(LIMIT + 1)), Err(Error::TooManyRanges));
 }
 
 /// A sheet by its fields.
@@ -1067,10 +1068,13 @@ fn coverage_from_sheet(c: &mut Checks) {
     c.same(cover(&sheet_of(1, 8, &[3, 2])), bad());
     c.same(cover(&sheet_of(2, 8, &[0, 2, 2, 4])), bad());
     c.same(cover(&sheet_of(2, 8, &[4, 0, 5, 1])), bad());
-    let numbers: Vec<u64> = (0..1025).map(|i| 2 * i).chain((0..1025).map(|i| 2 * i + 1)).collect();
-    c.same(cover(&sheet_of(1025, 8, &numbers)), bad());
-    let numbers: Vec<u64> = (0..1024).map(|i| 2 * i).chain((0..1024).map(|i| 2 * i + 1)).collect();
-    c.same(cover(&sheet_of(1024, 8, &numbers)).map(|ranges| ranges.len()), Ok(1024));
+    let apart = |n: u16| {
+        let begins = (0..u64::from(n)).map(|i| 2 * i);
+        let numbers: Vec<u64> = begins.clone().chain(begins.map(|begin| begin + 1)).collect();
+        sheet_of(n, 8, &numbers)
+    };
+    c.same(cover(&apart(LIMIT as u16 + 1)), bad());
+    c.same(cover(&apart(LIMIT as u16)).map(|ranges| ranges.len()), Ok(LIMIT));
 }
 
 /// What a call writes into an output of a length, and all of the output after it.
@@ -1086,7 +1090,7 @@ fn untouched(len: usize, e: Error) -> (Result<usize>, Vec<u8>) {
 
 fn coverage(ranges: &[(u64, u64)]) -> Coverage {
     let ranges: Vec<Range> = ranges.iter().map(|&(begin, end)| at(begin, end)).collect();
-    Coverage::from_ranges(&ranges).expect("not more than 1,024 ranges")
+    Coverage::from_ranges(&ranges).expect("not more than LIMIT ranges")
 }
 
 /// Ranges that make no lawful sheet.
@@ -1108,9 +1112,9 @@ fn sheet(c: &mut Checks) {
     }
     let many = vec![at(1, 2); LIMIT + 1];
     c.same(Coverage::from_ranges(&many).map(|_| ()), Err(Error::BadSheet));
-    let full: Vec<(u64, u64)> = (0..1024).map(|i| (2 * i, 2 * i + 1)).collect();
+    let full: Vec<(u64, u64)> = (0..LIMIT as u64).map(|i| (2 * i, 2 * i + 1)).collect();
     c.same(write(&full, SHEET_MAX).0, Ok(SHEET_MAX));
-    c.same((coverage(&full).len(), coverage(&[]).is_empty()), (1024, true));
+    c.same((coverage(&full).len(), coverage(&[]).is_empty()), (LIMIT, true));
 }
 
 fn canonical(c: &mut Checks) {
@@ -1151,11 +1155,11 @@ fn range_canonical(c: &mut Checks) {
         write(&join(&[&TOUCHING[..12], &[8]]), 4, 0, 16),
         untouched(16, Error::UnknownRangeListsEntry(8)),
     );
-    c.same(write(&apart(1025), 4, 0, 16), untouched(16, Error::TooManyRanges));
+    c.same(write(&apart(LIMIT + 1), 4, 0, 16), untouched(16, Error::TooManyRanges));
     c.same(write(TOUCHING, 4, u64::MAX, 16), untouched(16, EOF));
     c.same(write(TOUCHING, 0, u64::MAX, 16), untouched(16, Error::UnsupportedAddressSize(0)));
-    let full = write(&apart(1024), 4, 0, CANONICAL_MAX);
-    c.same((full.0, full.1[10 * 1024], full.1[10 * 1024 + 1]), (Ok(10 * 1024 + 1), 0, 0xee));
+    let (full, all) = (write(&apart(LIMIT), 4, 0, CANONICAL_MAX), 10 * LIMIT + 1);
+    c.same((full.0, full.1[all - 1], full.1[all]), (Ok(all), 0, 0xee));
 }
 
 fn location_canonical(c: &mut Checks) {
@@ -1180,7 +1184,7 @@ fn location_canonical(c: &mut Checks) {
     c.same(write(&gnu, 4, main, 0, 16), untouched(16, EOF));
     c.same(write(&[9], 5, main, 0, 0), untouched(0, Error::UnknownLocListsEntry(9)));
     c.same(write(&gnu, 4, dwo, u64::MAX, 16), untouched(16, EOF));
-    c.same(write(&[5, 0].repeat(1025), 5, main, 0, 16), untouched(16, Error::TooManyRanges));
+    c.same(write(&[5, 0].repeat(LIMIT + 1), 5, main, 0, 16), untouched(16, Error::TooManyRanges));
 }
 
 fn is_canonical(c: &mut Checks) {
@@ -1193,7 +1197,7 @@ fn is_canonical(c: &mut Checks) {
     c.same(canonical(&[0]), true);
     c.same(canonical(&join(&[&entry(0, &[0x7f]), &entry(0x80, &[0x80, 1]), &[0]])), true);
     c.same(canonical(&join(&[&entry(0, &most), &[0]])), true);
-    c.same(canonical(&apart(1024)), true);
+    c.same(canonical(&apart(LIMIT as u64)), true);
     for unlike in [
         // Nothing, no end mark, a byte after it, an end mark alone that is cut off.
         vec![],
@@ -1209,7 +1213,7 @@ fn is_canonical(c: &mut Checks) {
         join(&[&entry(0x10, &[0x10]), &entry(0x20, &[0x10]), &[0]]),
         join(&[&entry(0x10, &[0x20]), &entry(0x20, &[0x20]), &[0]]),
         join(&[&entry(0x20, &[1]), &entry(0x10, &[1]), &[0]]),
-        apart(1025),
+        apart(LIMIT as u64 + 1),
         join(&[&entry(u64::MAX - 1, &[1]), &[0]]),
         // The same range by another kind, and a kind that isn't there.
         join(&[&[6], &0x10u64.to_le_bytes(), &0x30u64.to_le_bytes(), &[0]]),

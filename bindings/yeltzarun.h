@@ -4,8 +4,9 @@
  * before it. The caller sees to it that a pointer and its length name readable bytes (the pointer may be NULL where the
  * length is 0), that a pointer to a walk, a place, a part or bounds is not NULL, that what a call writes to can be written
  * and shares no byte with anything else that it is lent, and that no other thread writes what is lent. The library is for
- * x86-64. The calls over coverages take about 100 KB of stack, the others less than 1 KB. Its functions have no unwind
- * tables: they throw nothing and call nothing of the caller, but a backtrace taken inside one, as by a signal, stops there.
+ * x86-64. The calls over coverages take less than 100 * YZ_LIMIT bytes of stack, the others less than 1 KB. Its functions have
+ * no unwind tables: they throw nothing and call nothing of the caller, but a backtrace taken inside one, as by a signal, stops
+ * there.
  *
  * An answer is a struct. It begins with `result`; with YZ_REFUSED, `refusal` is the refusal's number and `refusal_value` its
  * value, 0 where it has none. Fields that the result does not name are 0. What a call may be refused with stands at the call.
@@ -19,7 +20,10 @@
  *   debug_addr, debug_addr_len  the bytes of .debug_addr, in the byte order of the list; length 0 where there is none
  *   debug_addr_base             DW_AT_addr_base: where the addresses of the unit's table begin. A row past the table's end
  *                               reads what follows in the section, as gimli does
- *   encoding                    how the unit is written, or of it big_endian alone
+ *   debug_rnglists_base,        DW_AT_rnglists_base, DW_AT_loclists_base: where the offsets of the unit's table begin. A row
+ *   debug_loclists_base         past the table's end is read likewise
+ *   encoding                    how the unit is written, or of it big_endian or address_size alone; the latter stands last in
+ *                               yz_wrapping_add_sized, as in gimli
  *   file_type                   whether the section is of a .dwo file: then location lists of every version have kinds
  *   offset, or at               where the list begins in the section, or what is read
  *   base_address                DW_AT_low_pc of the unit
@@ -52,7 +56,7 @@ extern "C" {
 #endif
 
 /* The version of this interface; it changes with every change of a struct, a number or a call. */
-#define YZ_VERSION 2
+#define YZ_VERSION 3
 
 /* The version of the library that is linked; the header is for it where this is YZ_VERSION. */
 uint32_t yz_version(void);
@@ -78,7 +82,7 @@ typedef enum yz_refusal {
     YZ_UNSUPPORTED_SEGMENT_SIZE = 7,  /* not 0; the size */
     YZ_UNKNOWN_RESERVED_LENGTH = 8,   /* an initial length from 0xfffffff0 to 0xfffffffe; the length */
     YZ_UNSUPPORTED_OFFSET = 9,        /* a product or a sum is at or above 2^64 */
-    YZ_TOO_MANY_RANGES = 10,          /* the 1,025th yielded range is met */
+    YZ_TOO_MANY_RANGES = 10,          /* a yielded range past YZ_LIMIT is met */
     YZ_NO_SPACE = 11,                 /* the output is shorter than the result */
     YZ_BAD_SHEET = 12                 /* no lawful sheet */
 } yz_refusal;
@@ -373,18 +377,18 @@ yz_number yz_table_entry_next(const uint8_t *debug_addr, size_t debug_addr_len, 
 /* The header of .debug_rnglists or .debug_loclists at a place. Refused: 1, 5, 6, 7, 8. */
 yz_lists_header_answer yz_lists_header(const uint8_t *section, size_t section_len, bool big_endian, size_t at);
 
-/* The range list's offset that an index (DW_FORM_rnglistx) has in the table at a base (DW_AT_rnglists_base).
- * Refused: 1, 9. */
-yz_number yz_range_get_offset(const uint8_t *debug_rnglists, size_t debug_rnglists_len, yz_encoding encoding,
-                              uint64_t base, uint64_t index);
+/* The range list's offset that an index (DW_FORM_rnglistx) has in the table at a base (DW_AT_rnglists_base). A row past the
+ * table's end reads what follows in the section. Refused: 1, 9. */
+yz_number yz_range_get_offset(const uint8_t *debug_rnglists, size_t debug_rnglists_len, uint64_t debug_rnglists_base,
+                              yz_encoding encoding, uint64_t index);
 
 /* The base of .debug_rnglists where no attribute gives one: the answer itself. */
 uint64_t yz_range_default_base(yz_encoding encoding, yz_file_type file_type);
 
-/* The location list's offset that an index (DW_FORM_loclistx) has in the table at a base (DW_AT_loclists_base).
- * Refused: 1, 9. */
-yz_number yz_location_get_offset(const uint8_t *debug_loclists, size_t debug_loclists_len, yz_encoding encoding,
-                                 uint64_t base, uint64_t index);
+/* The location list's offset that an index (DW_FORM_loclistx) has in the table at a base (DW_AT_loclists_base). A row past
+ * the table's end reads what follows in the section. Refused: 1, 9. */
+yz_number yz_location_get_offset(const uint8_t *debug_loclists, size_t debug_loclists_len, uint64_t debug_loclists_base,
+                                 yz_encoding encoding, uint64_t index);
 
 /* The base of .debug_loclists where no attribute gives one: the answer itself. */
 uint64_t yz_location_default_base(yz_encoding encoding, yz_file_type file_type);
@@ -459,7 +463,8 @@ yz_count yz_location_coverage(const uint8_t *section, size_t section_len, const 
                               yz_file_type file_type, uint64_t offset, uint64_t base_address, yz_bounds *begins,
                               yz_bounds *ends);
 
-/* The coverage of a canonical list, read as a section of its own. Refused: 1, 2, 3, 9, 10. */
+/* The coverage of a canonical list, read as a section of its own. Any little-endian DWARF 5 range list of address size 8 is
+ * read so, canonical or not, also one cut between entries: yz_is_canonical is the test. Refused: 1, 2, 3, 9, 10. */
 yz_count yz_coverage_from_canonical(const uint8_t *bytes, size_t bytes_len, yz_bounds *begins, yz_bounds *ends);
 
 /* The coverage of a sheet. Refused: 12. */

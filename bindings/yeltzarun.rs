@@ -5,7 +5,7 @@
 //! is a lent slice with a byte order; a list and the address table that it is read with have the
 //! same one, or are refused with [`Error::MixedByteOrders`]. Every walk has an end, since opening
 //! refuses an address size that isn't read. A walk is an [`Iterator`] too, as in gimli. The calls
-//! over a [`Coverage`] take about 100 KB of stack.
+//! over a [`Coverage`] take less than 100 × [`LIMIT`] bytes of stack.
 //!
 //! A package uses it by `yeltzarun = { path = ".." }`, the path of this folder. Its build script links
 //! the file that `YELTZARUN_LIBRARY` names, or the repository's `target/lib/libyeltzarun.a`, which
@@ -78,9 +78,10 @@ pub use common::{
     DebugRngListsBase, DebugRngListsIndex, DwarfFileType, Encoding, Format, LocationListsOffset,
     RangeListsOffset, RunTimeEndian,
 };
-pub use coverage::{CANONICAL_MAX, CanonicalList, Coverage, LIMIT, SHEET_MAX, Sheet};
+pub use coverage::{CANONICAL_MAX, CanonicalList, Coverage, SHEET_MAX, Sheet};
 pub use entries::{Expression, LocationListEntry, Range, RawLocListEntry, RawRngListEntry};
 pub use error::{Error, Result};
+pub use ffi::LIMIT;
 pub use lists::ListsHeader;
 pub use loclists::{LocListIter, LocationLists, RawLocListIter};
 pub use reader::{EndianSlice, ReaderAddress};
@@ -88,7 +89,7 @@ pub use rnglists::{RangeLists, RawRngListIter, RngListIter};
 pub use section::{DebugAddr, DebugLoc, DebugLocLists, DebugRanges, DebugRngLists};
 
 /// The version of the interface that this wrapper is for.
-pub const VERSION: u32 = 2;
+pub const VERSION: u32 = 3;
 
 /// The version of the library that is linked. Where it isn't [`VERSION`], its answers can't be
 /// understood.

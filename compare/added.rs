@@ -8,7 +8,7 @@ use oracle::oracle_api::*;
 use crate::differ::{Met, Port};
 
 /// How many ranges a coverage holds, and the walk that makes one may yield.
-pub const MOST: usize = 1024;
+pub const MOST: usize = crate::port::LIMIT;
 
 pub type Ranges = Vec<(u64, u64)>;
 
@@ -183,7 +183,8 @@ fn made(
         Err(refusal) => (Err(*refusal), got.clone()),
     };
     count(met, call, &wrote);
-    if let Ok(n @ 1023..) = wrote {
+    const NEAR: u64 = MOST as u64 - 1;
+    if let Ok(n @ NEAR..) = wrote {
         met.met(format!("{call} of {n} runs"));
     }
     met.same(call, &wrote, &port(&mut got))?;

@@ -2,14 +2,15 @@
 //! lent, or one for the whole task. A walk is a function of its own, so that
 //! its loop is nothing but the call.
 
-// The declarations of the wrapper, which take LIMIT from here.
+// The declarations of the wrapper.
 #[allow(dead_code)]
 #[path = "../bindings/yeltzarun/ffi.rs"]
 #[rustfmt::skip]
 mod ffi;
 
 use crate::bench_rows::{Kind, Row};
-use crate::bench_sets::{Coverage, MOST as LIMIT, sum_of_bytes};
+use crate::bench_sets::{Coverage, sum_of_bytes};
+pub use ffi::LIMIT;
 use ffi::*;
 use std::hint::black_box;
 

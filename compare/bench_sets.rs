@@ -4,7 +4,7 @@
 use crate::bench_gimli::{Lists, Order};
 use std::hint::black_box;
 
-pub const MOST: usize = 1024;
+pub const MOST: usize = crate::bench_port::LIMIT;
 /// No canonical list is longer: a code, an address and a length for each range.
 pub const LONGEST: usize = MOST * 19 + 1;
 

@@ -29,9 +29,9 @@ fn how_many(r: &mut Random) -> usize {
     match r.below(8) {
         0 => r.pick(&[0, 1, 2]),
         1..=4 => 1 + r.below(40) as usize,
-        5 => 1 + r.below(1200) as usize,
+        5 => 1 + r.below(MOST as u64 * 5 / 4) as usize,
         6 => r.pick(&[MOST - 1, MOST, MOST + 1, MOST + 2]),
-        _ => r.pick(&[MOST - 1, MOST, MOST + 1, 2399]),
+        _ => r.pick(&[MOST - 1, MOST, MOST + 1, 2 * MOST + 1]),
     }
 }
 
@@ -270,7 +270,9 @@ fn by_hand(r: &mut Random) -> (u64, Kept) {
     let n = count as u64;
     let fault = r.below(14);
     if fault == 0 {
-        return (r.pick(&[1025, 1026, 0xffff, 0x10000, 1 << 32, 1 << 63, u64::MAX]), kept);
+        let most = MOST as u64;
+        let counts = [most + 1, most + 2, 0xffff, 0x10000, 1 << 32, 1 << 63, u64::MAX];
+        return (r.pick(&counts), kept);
     }
     if fault == 1 {
         return (r.pick(&[(1 << 16) + n, (1 << 32) + n, u64::MAX - n]), kept);
@@ -319,7 +321,7 @@ fn sheets(port: &impl Added, r: &mut Random, met: &mut Met) -> Result<(), String
         sheet[at..at + bytes.len()].copy_from_slice(bytes);
         sheet
     };
-    let counts = [0, count.wrapping_sub(1), count + 1, 1024, 1025, 0x4000, 0xffff];
+    let counts = [0, count.wrapping_sub(1), count + 1, MOST, MOST + 1, 0x4000, 0xffff];
     for other in counts {
         added::from_sheet(port, &field(0, &(other as u16).to_le_bytes()), r, met)?;
     }
@@ -342,7 +344,7 @@ fn sheets(port: &impl Added, r: &mut Random, met: &mut Met) -> Result<(), String
     over_full(port, r, met)
 }
 
-/// A sheet of 1,025 ranges, right but for its count.
+/// A sheet of one range too many, right but for its count.
 fn over_full(port: &impl Added, r: &mut Random, met: &mut Met) -> Result<(), String> {
     let ranges: Ranges = (0..MOST as u64 + 1).map(|at| (4 * at, 4 * at + 1)).collect();
     added::from_sheet(port, &added::sheet(&ranges), r, met)

@@ -1,6 +1,13 @@
 //! Runs the examples of docs/SCOPE.md and the open points of docs/DECISIONS.md through
 //! the oracle, and says which answers differ from the ones stated there.
 
+// The declarations of the wrapper, for the limit.
+#[allow(dead_code)]
+#[path = "../bindings/yeltzarun/ffi.rs"]
+#[rustfmt::skip]
+mod ffi;
+
+use ffi::LIMIT;
 use oracle::oracle_api::*;
 
 #[derive(Default)]
@@ -243,9 +250,9 @@ fn refusals(c: &mut Check) {
         let got = get_offset(kind, &[0; 64], false, false, 0, 1 << 62);
         c.same("9, get_offset, 32-bit", got, OffsetAnswer::Refused(no(9, 0)));
     }
-    let b = bytes("07 10 00 00 00 01").repeat(1025);
-    let answers = walk(&list(Ranges, &b), 2000);
-    c.same("10's list", answers, [vec![range(0x10, 0x11); 1025], vec![Answer::End]].concat());
+    let b = bytes("07 10 00 00 00 01").repeat(LIMIT + 1);
+    let answers = walk(&list(Ranges, &b), LIMIT + 3);
+    c.same("10's list", answers, [vec![range(0x10, 0x11); LIMIT + 1], vec![Answer::End]].concat());
 }
 
 fn rules(c: &mut Check) {

@@ -1,13 +1,14 @@
 //! The port through its C interface, as `bindings/yeltzarun.h` tells it.
 
-// The declarations of the wrapper, which take LIMIT from here.
+// The declarations of the wrapper.
 #[allow(dead_code)]
 #[path = "../bindings/yeltzarun/ffi.rs"]
 #[rustfmt::skip]
 mod ffi;
 
-use crate::added::{Added, Kept, MOST as LIMIT, Wrote};
+use crate::added::{Added, Kept, Wrote};
 use crate::differ::{Found, Port};
+pub use ffi::LIMIT;
 use ffi::*;
 use oracle::oracle_api::{
     Answer, Converted, Form, Kind, List, Lists, Place, Raw, Refusal, State, Table, Yielded,
@@ -313,7 +314,7 @@ impl Port for Ffi {
     ) -> Result<u64, Refusal> {
         let get = if kind == Kind::Ranges { yz_range_get_offset } else { yz_location_get_offset };
         let (s, n, encoding) = (section.as_ptr(), section.len(), written(0, dwarf64, big_endian));
-        result(unsafe { get(s, n, encoding, base, index) }, |offset| offset)
+        result(unsafe { get(s, n, base, encoding, index) }, |offset| offset)
     }
 
     fn default_base(&self, kind: Kind, version: u16, dwarf64: bool, split_file: bool) -> u64 {

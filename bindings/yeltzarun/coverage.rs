@@ -2,11 +2,9 @@
 
 use super::ffi;
 use super::reader::part;
-use super::{Error, Range, Result};
+use super::{Error, LIMIT, Range, Result};
 use core::fmt;
 
-/// How many ranges a [`Coverage`] holds at most.
-pub const LIMIT: usize = 1024;
 /// A sheet has at most this many bytes.
 pub const SHEET_MAX: usize = 4 + 16 * LIMIT;
 /// A canonical list has at most this many bytes.
@@ -137,13 +135,16 @@ impl<'a> CanonicalList<'a> {
         self.bytes
     }
 
-    /// The coverage that the list tells, read as a section of its own.
+    /// The coverage that the list tells, read as a section of its own. Any little-endian DWARF 5
+    /// range list of address size 8 is read so, canonical or not, also one cut between entries:
+    /// [`is_canonical`](CanonicalList::is_canonical) is the test.
     pub fn coverage(&self) -> Result<Coverage> {
         // SAFETY: pointer and length are of one slice.
         Coverage::made(|begins, ends| unsafe {
             ffi::yz_coverage_from_canonical(self.bytes.as_ptr(), self.bytes.len(), begins, ends)
         })
     }
+
     /// Whether the bytes, no more and no fewer, are the canonical list of some coverage.
     pub fn is_canonical(&self) -> bool {
         // SAFETY: pointer and length are of one slice.

@@ -27,7 +27,7 @@ pub enum Error {
     UnknownReservedLength(u64),
     /// A product or a sum is at or above 2^64.
     UnsupportedOffset,
-    /// A list yields more than 1,024 ranges.
+    /// A list yields more than [`LIMIT`](super::LIMIT) ranges.
     TooManyRanges,
     /// The output is shorter than the result.
     NoSpace,

@@ -1,8 +1,11 @@
 //! The calls of the library and what they pass, as in yeltzarun.h. A slice is a pointer and a
 //! length.
 
+/// How many ranges a coverage holds at most.
+pub const LIMIT: usize = 1024;
+
 pub type Ptr = *const u8;
-pub type Bounds = [u64; super::LIMIT];
+pub type Bounds = [u64; LIMIT];
 
 /// What a call comes to.
 pub const DONE: u32 = 0;
@@ -144,11 +147,11 @@ unsafe extern "C" {
     ) -> Answer<u64>;
     pub fn yz_lists_header(s: Ptr, n: usize, big_endian: bool, at: usize) -> Answer<ListsHeader>;
     pub fn yz_range_get_offset(
-        s: Ptr, n: usize, encoding: Encoding, base: u64, index: u64,
+        s: Ptr, n: usize, lists_base: u64, encoding: Encoding, index: u64,
     ) -> Answer<u64>;
     pub safe fn yz_range_default_base(encoding: Encoding, file_type: u32) -> u64;
     pub fn yz_location_get_offset(
-        s: Ptr, n: usize, encoding: Encoding, base: u64, index: u64,
+        s: Ptr, n: usize, lists_base: u64, encoding: Encoding, index: u64,
     ) -> Answer<u64>;
     pub safe fn yz_location_default_base(encoding: Encoding, file_type: u32) -> u64;
 

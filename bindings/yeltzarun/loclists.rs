@@ -74,7 +74,8 @@ impl<'a> LocationLists<'a> {
         RawLocListIter::open(self.written(unit_encoding), DwarfFileType::Dwo, offset, 0)
     }
 
-    /// The offset that an index has in the table at a base of `.debug_loclists`.
+    /// The offset that an index has in the table at a base of `.debug_loclists`. A row past the
+    /// table's end reads what follows in the section.
     pub fn get_offset(
         &self,
         unit_encoding: Encoding,
@@ -85,7 +86,7 @@ impl<'a> LocationLists<'a> {
         let encoding = unit_encoding.in_order(endian);
         // SAFETY: pointer and length are of one slice.
         let answer =
-            unsafe { ffi::yz_location_get_offset(s.as_ptr(), s.len(), encoding, base.0, index.0) };
+            unsafe { ffi::yz_location_get_offset(s.as_ptr(), s.len(), base.0, encoding, index.0) };
         answer.done().map(LocationListsOffset)
     }
 

@@ -59,7 +59,8 @@ impl<'a> RangeLists<'a> {
         RawRngListIter::open(self.written(unit_encoding), offset, 0)
     }
 
-    /// The offset that an index has in the table at a base of `.debug_rnglists`.
+    /// The offset that an index has in the table at a base of `.debug_rnglists`. A row past the
+    /// table's end reads what follows in the section.
     pub fn get_offset(
         &self,
         unit_encoding: Encoding,
@@ -70,7 +71,7 @@ impl<'a> RangeLists<'a> {
         let encoding = unit_encoding.in_order(endian);
         // SAFETY: pointer and length are of one slice.
         let answer =
-            unsafe { ffi::yz_range_get_offset(s.as_ptr(), s.len(), encoding, base.0, index.0) };
+            unsafe { ffi::yz_range_get_offset(s.as_ptr(), s.len(), base.0, encoding, index.0) };
         answer.done().map(RangeListsOffset)
     }
 

@@ -24,6 +24,7 @@ use Rattle.lists.specs.Open.{walkAt, opened}
 use Rattle.lists.specs.Walk.{Trace, item, over, next, nextRaw, convertRaw, nextRange, nextRawRange, convertedRange, nextLocation, nextRawLocation, convertedLocation, handed, comes}
 use Rattle.coverage.specs.Covered.{source, rangeList, yieldedIn, yieldedOf, coverageOf}
 use Rattle.coverage.specs.Kept.{rangesOf, padded, keptAs, lawfulFrom, lawfulSheet}
+use Rattle.coverage.specs.Ranges.{limit}
 use Rattle.coverage.specs.Told.{made}
 use Rattle.sheets.specs.Sheet.{sheetKept}
 use Rattle.canonical.specs.Canonical.{canonicalOf, canonicalKept}
@@ -110,7 +111,7 @@ written-no-space : written (gives (0x07 ∷ 0x00 ∷ [])) (0x01 ∷ []) ≡ outp
 unfolding written
 written-no-space = refl
 
--- a coverage of one range counts it, has 1,024 places and is 0 past it; that of a refused list counts none
+-- a coverage of one range counts it, has as many places as the limit and is 0 past it; that of a refused list counts none
 abbrev one : Coverage
 one = made (gives ((0x10, 0x20) ∷ [])) .coverage
 
@@ -118,7 +119,7 @@ one-counted : one .n ≡ 1
 unfolding keptAs
 one-counted = refl
 
-one-places : length (one .begins) ≡ 1024
+one-places : length (one .begins) ≡ limit
 unfolding keptAs padded
 one-places = refl
 

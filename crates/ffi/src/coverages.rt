@@ -26,7 +26,7 @@ pub extern "C" fn yz_coverage_from_sheet(
     ffi_words::coverages::hand_out(made, begins, ends)
 }
 
-// 12 where the first n places make no lawful sheet, or n is above 1,024; then 11.
+// 12 where the first n places make no lawful sheet, or n is above the limit; then 11.
 #[no_mangle]
 pub extern "C" fn yz_sheet(n: u64, begins: &Places, ends: &Places, output: &mut [u8]) -> YzCount
     ensures { λ r. ⌜ left r (now (output .exit)) ≡ outputLeft (written (sheetKept (handedCoverage n (now (begins .entry)) (now (ends .entry)))) (now (output .entry))) ⌝ }

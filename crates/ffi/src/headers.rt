@@ -82,18 +82,18 @@ pub extern "C" fn yz_lists_header(section: &[u8], big_endian: bool, at: usize) -
 #[no_mangle]
 pub extern "C" fn yz_range_get_offset(
     debug_rnglists: &[u8],
+    debug_rnglists_base: u64,
     encoding: YzEncoding,
-    base: u64,
     index: u64,
 ) -> YzNumber
-    ensures { λ r. ⌜ r ≡ numberResult (rangeOffset (endianIn encoding) (formatOf (encoding .dwarf64)) (record { 0 = base }) (record { 0 = index }) (now («debug_rnglists» .entry))) ⌝ }
+    ensures { λ r. ⌜ r ≡ numberResult (rangeOffset (endianIn encoding) (formatOf (encoding .dwarf64)) (record { 0 = «debug_rnglists_base» }) (record { 0 = index }) (now («debug_rnglists» .entry))) ⌝ }
 {
     let unit = ffi_words::common::encoding_of(encoding);
     let endian = ffi_words::common::endian_in(encoding);
     let r = tables::rnglists::get_offset(
         debug_rnglists,
         unit,
-        DebugRngListsBase(base),
+        DebugRngListsBase(debug_rnglists_base),
         DebugRngListsIndex(index),
         endian,
     );
@@ -114,18 +114,18 @@ pub extern "C" fn yz_range_default_base(encoding: YzEncoding, file_type: u32) ->
 #[no_mangle]
 pub extern "C" fn yz_location_get_offset(
     debug_loclists: &[u8],
+    debug_loclists_base: u64,
     encoding: YzEncoding,
-    base: u64,
     index: u64,
 ) -> YzNumber
-    ensures { λ r. ⌜ r ≡ numberResult (locationOffset (endianIn encoding) (formatOf (encoding .dwarf64)) (record { 0 = base }) (record { 0 = index }) (now («debug_loclists» .entry))) ⌝ }
+    ensures { λ r. ⌜ r ≡ numberResult (locationOffset (endianIn encoding) (formatOf (encoding .dwarf64)) (record { 0 = «debug_loclists_base» }) (record { 0 = index }) (now («debug_loclists» .entry))) ⌝ }
 {
     let unit = ffi_words::common::encoding_of(encoding);
     let endian = ffi_words::common::endian_in(encoding);
     let r = tables::loclists::get_offset(
         debug_loclists,
         unit,
-        DebugLocListsBase(base),
+        DebugLocListsBase(debug_loclists_base),
         DebugLocListsIndex(index),
         endian,
     );

@@ -3,19 +3,19 @@ use ffi_words::common::YzEncoding;
 use ffi_words::common::YzPart;
 ghost use mathlib.Core.Path.{_≡_};
 ghost use Rattle.ffi_words.specs.Common.{encodingOf};
-ghost use Rattle.ffi_words.specs.Sections.{TellsSection, LiesIn};
+ghost use Rattle.ffi_words.specs.Sections.{sectionTold, lying};
 
 #[no_mangle]
 pub extern "C" fn yz_version() -> u32
-    ensures { λ r. ⌜ r ≡ 2 ⌝ }
+    ensures { λ r. ⌜ r ≡ 3 ⌝ }
 {
-    2
+    3
 }
 
-// Whatever the two sections hold, the one that is told has the lists of the unit.
+// Of the two sections, the one that has the lists of the unit.
 #[no_mangle]
 pub extern "C" fn yz_section_of(encoding: YzEncoding) -> u32
-    ensures { λ r. ⌜ TellsSection (encodingOf encoding) r ⌝ }
+    ensures { λ r. ⌜ r ≡ sectionTold (encodingOf encoding) ⌝ }
 {
     if encoding.version <= 4 {
         return 0;
@@ -26,7 +26,7 @@ pub extern "C" fn yz_section_of(encoding: YzEncoding) -> u32
 // The part itself where it lies in the section, else the empty part at the section's start.
 #[no_mangle]
 pub extern "C" fn yz_expression(section: &[u8], expression: YzPart) -> YzPart
-    ensures { λ r. ⌜ LiesIn (now (section .entry)) expression r ⌝ }
+    ensures { λ r. ⌜ r ≡ lying (now (section .entry)) expression ⌝ }
 {
     let n = section.len() as u64;
     if n < expression.offset {

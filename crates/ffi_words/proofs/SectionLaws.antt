@@ -1,26 +1,34 @@
--- Which section a number tells, and where an expression lies. Assumes nothing.
+-- Where a part lies: it is told whole or not at all, and its bytes are the part's. Assumes nothing.
 use mathlib.Core.List.{List}
-use mathlib.Core.Path.{sym}
+use mathlib.Core.Logic.{⊎-elim}
+use mathlib.Core.Path.{_≡_, sym, _∙_}
 use Prim.Native.Nat.{ℕ, _+_, _≤_, _<_}
 use native.Mathlib.Omega.{arith}
 use borrow.Author.Tests.{le-leb, lt-leb}
-use lib.ListN.{length}
-use Rattle.bytes.specs.declared.common.Encoding.{Encoding}
+use lib.ListN.{length, take, drop}
+use Rattle.bytes.specs.Reader.{partOf}
+use Rattle.bytes.proofs.Order.{lt-or-le}
 use Rattle.bytes.proofs.ReaderLaws.{part-inside, part-outside}
-use Rattle.lists.proofs.ConvertLaws.{older-section, newer-section}
 use Rattle.ffi_words.specs.Common.{noPart}
-use Rattle.ffi_words.specs.Sections.{TellsSection, LiesIn}
+use Rattle.ffi_words.specs.Sections.{lying}
 use Rattle.ffi_words.specs.declared.common.YzPart.{YzPart}
 
-pub tells-older : (encoding : Encoding) → encoding .version ≤ 4 → TellsSection encoding 0
-tells-older encoding h older newer = sym (older-section encoding older newer h)
+module _ (s : List ℕ) (x : YzPart) where
+  pub lies-in : x .offset + x .length ≤ length s → x ≡ lying s x
+  unfolding lying
+  lies-in h = simp (le-leb _ _ h)
 
-pub tells-newer : (encoding : Encoding) → 4 < encoding .version → TellsSection encoding 1
-tells-newer encoding h older newer = sym (newer-section encoding older newer h)
+  pub lies-out : length s < x .offset + x .length → noPart ≡ lying s x
+  unfolding lying
+  lies-out h = simp (lt-leb _ _ h)
 
-pub lies-in : (s : List ℕ) (x : YzPart) → x .offset + x .length ≤ length s → LiesIn s x x
-lies-in s x h = record { same = simp (le-leb _ _ h); inside = h; bytes = sym (part-inside (x .length) s (x .offset) h) }
+  -- the part told lies in the section
+  pub lying-inside : lying s x .offset + lying s x .length ≤ length s
+  lying-inside =
+      ⊎-elim (λ h. rw (← lies-out h) (omega arith)) (λ h. rw (← lies-in h) h) (lt-or-le (length s) (x .offset + x .length))
 
-pub lies-out : (s : List ℕ) (x : YzPart) → length s < x .offset + x .length → LiesIn s x noPart
-lies-out s x h =
-    record { same = simp (lt-leb _ _ h); inside = omega arith; bytes = sym (part-outside (x .length) s (x .offset) h) }
+  -- and its bytes are those of the part handed in
+  pub lying-bytes : take (lying s x .length) (drop (lying s x .offset) s) ≡ partOf s (x .offset) (x .length)
+  lying-bytes =
+      ⊎-elim (λ h. rw (← lies-out h) (sym (part-outside (x .length) s (x .offset) h)))
+      (λ h. rw (← lies-in h) (sym (part-inside (x .length) s (x .offset) h))) (lt-or-le (length s) (x .offset + x .length))

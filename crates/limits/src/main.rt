@@ -5,12 +5,15 @@ use bytes::common::Format;
 use bytes::common::RangeListsOffset;
 use bytes::endianity::RunTimeEndian;
 use bytes::error::Error;
+use coverage::LIMIT;
 use coverage::Verdict;
 use coverage::Wrote;
 use libc::STDOUT_FILENO;
 
-// 1,025 entries of six bytes, and the end mark.
-const LENGTH: usize = 6151;
+// One range more than a list may yield.
+const RANGES: usize = LIMIT + 1;
+// So many entries of six bytes, and the end mark.
+const LENGTH: usize = 6 * RANGES + 1;
 
 fn print_number(label: &[u8], n: u64) {
     io::write_all(STDOUT_FILENO, label);
@@ -33,7 +36,7 @@ fn encoding() -> Encoding {
 // Entries of kind 7, 0x10 to 0x11, one after the other.
 fn fill(list: &mut [u8; LENGTH]) {
     let mut i: usize = 0;
-    while i < 1025 {
+    while i < RANGES {
         list[6 * i] = 7;
         list[6 * i + 1] = 0x10;
         list[6 * i + 5] = 1;

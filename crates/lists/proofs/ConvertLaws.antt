@@ -72,7 +72,7 @@ module _ (encoding : Encoding) (s : List ℕ) (offset base : ℕ) where
   unfolding opened
   opened-other h = simp h
 
-module _ (encoding : Encoding) (older newer : List ℕ) where
+module _ {A : Type 0} (encoding : Encoding) (older newer : A) where
   pub older-section : encoding .version ≤ 4 → sectionFor encoding older newer ≡ older
   unfolding sectionFor
   older-section h = simp (le-leb _ _ h)

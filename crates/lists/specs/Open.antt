@@ -25,6 +25,7 @@ abbrev pub toldOpened : Opened → Result Walk
 toldOpened (answer.List w) = gives w
 toldOpened (answer.Refused e) = refusal e
 
--- lists of version 5 and above stand in a section of their own (DWARF 5, 7.28 and 7.29)
-unfoldable pub sectionFor : Encoding → List ℕ → List ℕ → List ℕ
+-- of what there is for the older section and for the newer one, that of the unit: lists of version 5 and above stand in a section of
+-- their own (DWARF 5, 7.28 and 7.29)
+unfoldable pub sectionFor : {A : Type 0} → Encoding → A → A → A
 sectionFor encoding older newer = pick (leb (encoding .version) 4) older newer

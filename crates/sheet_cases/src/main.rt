@@ -23,7 +23,7 @@ fn main() {
     run(b"cut");
     run(b"trailing");
     run(b"full");
-    // 1,025 lawful ranges, in as many bytes as they take: the count alone is refused.
+    // One lawful range more than the limit, in as many bytes as they take: the count alone is refused.
     run(b"over");
     run(b"long");
 }

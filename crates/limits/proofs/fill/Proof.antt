@@ -1,14 +1,15 @@
--- There are 1,025 turns of six places each, and one place more. Assumes nothing.
+-- Each turn takes six places, and there is one place more than all turns take. Assumes nothing.
 use borrow.Author.Needs.{needs}
-use Prim.Native.Nat.{_≤_, _-_}
+use Prim.Native.Nat.{suc, _≤_, _-_}
+use Rattle.coverage.specs.Ranges.{limit}
 use Rattle.limits.proofs.fill.Statement.{statement}
 use Rattle.limits.proofs.fill.Tie as tie
 
 abbrev Inv-loop : tie.InvT-loop
-Inv-loop list₀ i₀ list i = i ≤ 1025
+Inv-loop list₀ i₀ list i = i ≤ suc limit
 
 abbrev μ-loop : tie.MeasureT-loop
-μ-loop list₀ i₀ list i = 1025 - i
+μ-loop list₀ i₀ list i = suc limit - i
 
 loop-holds : tie.Need-loop-holds Inv-loop μ-loop
 loop-holds c = search needs
