@@ -23,7 +23,7 @@ raw-location-requires : tie.Need-raw-location-requires
 raw-location-requires c κs = search needs
 
 returns : tie.Need-returns
-returns c = rw (c .before .before .next-raw .ensures, c .before .before .before .endian-in .ensures, c .before .before .before .before .encoding-of .ensures, c .before .before .before .before .before .file-in .ensures, file-split, c .before .before .before .before .before .before .before .walk-in .ensures) at (c .raw-location .ensures)
+returns c = rw (c .raw-location .ensures, c .before .before .next-raw .ensures, c .before .before .before .endian-in .ensures, c .before .before .before .before .encoding-of .ensures, c .before .before .before .before .before .file-in .ensures, file-split, c .before .before .before .before .before .before .before .walk-in .ensures)
 
 pub yz-location-next-raw-spec : {M : Type 1} → statement M
 yz-location-next-raw-spec =

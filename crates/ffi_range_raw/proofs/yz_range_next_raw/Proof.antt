@@ -19,7 +19,7 @@ raw-range-requires : tie.Need-raw-range-requires
 raw-range-requires c κs = search needs
 
 returns : tie.Need-returns
-returns c = rw (c .before .before .next-raw .ensures, c .before .before .before .endian-in .ensures, c .before .before .before .before .encoding-of .ensures, c .before .before .before .before .before .walk-in .ensures) at (c .raw-range .ensures)
+returns c = rw (c .raw-range .ensures, c .before .before .next-raw .ensures, c .before .before .before .endian-in .ensures, c .before .before .before .before .encoding-of .ensures, c .before .before .before .before .before .walk-in .ensures)
 
 pub yz-range-next-raw-spec : {M : Type 1} → statement M
 yz-range-next-raw-spec =
