@@ -12,7 +12,7 @@ use Rattle.tables.specs.declared.addr.AddrEntryIter.{AddrEntryIter}
 use Rattle.tables.specs.declared.addr.AddrHeader.{AddrHeader}
 use Rattle.tables.specs.declared.addr.AddrHeaderIter.{AddrHeaderIter}
 use Rattle.ffi_words.specs.Common.{encodingTold, noEncoding, part, noPart, done, ended, refusedBy, Left, left}
-use Rattle.ffi_words.specs.Reads.{number, noNumber}
+use Rattle.ffi_words.specs.Reads.{numberTold, noNumber}
 use Rattle.ffi_words.specs.declared.common.YzDone.{YzDone}
 use Rattle.ffi_words.specs.declared.common.YzEncoding.{YzEncoding}
 use Rattle.ffi_words.specs.declared.common.YzPart.{YzPart}
@@ -59,6 +59,6 @@ abbrev pub entriesLeft : AddrEntryIter → List ℕ
 entriesLeft w = w .entries .offset ∷ w .entries .len ∷ []
 
 abbrev pub entryNext : Next ℕ AddrEntryIter → Left YzNumber
-entryNext (hands (gives a) w) = left (number done a) (entriesLeft w)
+entryNext (hands (gives a) w) = left (numberTold done a) (entriesLeft w)
 entryNext (ends w) = left (noNumber ended) (entriesLeft w)
 entryNext (hands (refused n vs) w) = left (noNumber (refusedBy n vs)) (entriesLeft w)

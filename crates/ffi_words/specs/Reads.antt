@@ -12,19 +12,19 @@ use Rattle.ffi_words.specs.declared.reads.YzPlace.{YzPlace}
 use Rattle.ffi_words.specs.declared.reads.YzSplitPart.{YzSplitPart}
 use Rattle.ffi_words.specs.declared.reads.YzUnitLength.{YzUnitLength}
 
-abbrev pub number : YzDone → ℕ → YzNumber
-number d n = record { done = d; number = n }
+abbrev pub numberTold : YzDone → ℕ → YzNumber
+numberTold d n = record { done = d; number = n }
 
 abbrev pub noNumber : YzDone → YzNumber
-noNumber d = number d 0
+noNumber d = numberTold d 0
 
 abbrev pub numberResult : Result ℕ → YzNumber
-numberResult (gives v) = number done v
+numberResult (gives v) = numberTold done v
 numberResult (refused n vs) = noNumber (refusedBy n vs)
 
 -- without its place
 abbrev pub numberOnly : Read ℕ → YzNumber
-numberOnly (gives (got v c)) = number done v
+numberOnly (gives (got v c)) = numberTold done v
 numberOnly (refused n vs) = noNumber (refusedBy n vs)
 
 abbrev pub read : YzDone → ℕ → ℕ → YzRead

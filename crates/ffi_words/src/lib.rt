@@ -5,7 +5,7 @@
 // that a result does not name are 0.
 //
 // A walk, a place among headers and what is left of a table are lent as words, in and out. A coverage is a count, and begins and
-// ends in arrays of 1,024 places. Calls that make one write both arrays whole, 0 past the count; to calls that take one, what
+// ends in arrays of `LIMIT` places. Calls that make one write both arrays whole, 0 past the count; to calls that take one, what
 // stands past the count makes no difference. A refused call leaves the arrays and the output as they were. What a call writes to
 // shares no byte with anything else that it is lent.
 pub mod common;

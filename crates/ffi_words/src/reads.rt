@@ -9,7 +9,7 @@ use bytes::Split;
 ghost use mathlib.Core.Path.{_≡_};
 ghost use Rattle.bytes.specs.Error.{told, toldPlace, toldSplit, toldLength};
 ghost use Rattle.ffi_words.specs.Common.{done};
-ghost use Rattle.ffi_words.specs.Reads.{number as numberTold, noNumber, numberRead, numberOnly, placeRead, partRead, lengthRead};
+ghost use Rattle.ffi_words.specs.Reads.{numberTold, noNumber, numberRead, numberOnly, placeRead, partRead, lengthRead};
 
 // A number.
 #[repr(C)]

@@ -12,8 +12,8 @@ use Rattle.bytes.specs.Read.{gives}
 use Rattle.bytes.specs.Error.{number, values, refusal}
 use Rattle.bytes.specs.declared.error.Error.the-variants.{NoSpace, BadSheet}
 use Rattle.coverage.specs.Ranges.{limit}
-use Rattle.coverage.specs.Kept.{paired, begins, ends, rangesOf, padded, keptAs, lawfulFrom, lawfulSheet}
-use Rattle.sheets.specs.Sheet.{sheetBytes, sheetKept, addressesIn, countIn, widthIn, rangesIn, isSheet, sheetRanges}
+use Rattle.coverage.specs.Kept.{paired, firsts, begins, ends, rangesOf, padded, keptAs, lawfulFrom, lawfulSheet}
+use Rattle.sheets.specs.Sheet.{sheetBytes, sheetKept, addressesIn, countIn, widthIn, rangesIn, isSheet, sheetRanges, sheetLength}
 use Rattle.coverage.specs.Output.{output, written}
 use Rattle.coverage.specs.Told.{answer, made}
 use Rattle.coverage.specs.declared.Coverage.{Coverage}
@@ -31,16 +31,16 @@ module _ (c : Coverage) (l : List ℕ) where
   sheet-refused e = rw (no-sheet-kept c e) (sym (written-refused (number BadSheet) (values BadSheet) l))
 
   module _ (law : lawfulSheet c ≡ true) (lb : length (c .begins) ≡ limit) (le : length (c .ends) ≡ limit) where
-    pub sheet-short : length l < 4 + 16 * c .n → output (refusal NoSpace) l ≡ written (sheetKept c) l
+    pub sheet-short : length l < sheetLength (c .n) → output (refusal NoSpace) l ≡ written (sheetKept c) l
     sheet-short h =
         let e = sheet-length (c .begins) (c .ends) (c .n) (lawful-few c law) lb le in
-        rw (sheet-kept c law, ranges-are c) (sym (written-short (sheetBytes (take (c .n) (paired (c .begins) (c .ends)))) l (omega arith)))
+        rw (sheet-kept c law, ranges-are c) (sym (written-short (sheetBytes (firsts (c .n) (c .begins) (c .ends))) l (omega arith)))
 
-    pub sheet-written : {m : List ℕ} → 4 + 16 * c .n ≤ length l → m ≡ sets l 0 (sheetBytes (take (c .n) (paired (c .begins) (c .ends))))
-        → output (gives (4 + 16 * c .n)) m ≡ written (sheetKept c) l
+    pub sheet-written : {m : List ℕ} → sheetLength (c .n) ≤ length l → m ≡ sets l 0 (sheetBytes (firsts (c .n) (c .begins) (c .ends)))
+        → output (gives (sheetLength (c .n))) m ≡ written (sheetKept c) l
     sheet-written h q =
         let e = sheet-length (c .begins) (c .ends) (c .n) (lawful-few c law) lb le in
-        rw (sheet-kept c law, ranges-are c) (all-written (sheetBytes (take (c .n) (paired (c .begins) (c .ends)))) l (sym e) h q)
+        rw (sheet-kept c law, ranges-are c) (all-written (sheetBytes (firsts (c .n) (c .begins) (c .ends))) l (sym e) h q)
 
 -- what is no sheet is refused
 module _ (bs : List ℕ) where
@@ -51,7 +51,7 @@ module _ (bs : List ℕ) where
   pub no-head : length bs < 4 → refusal BadSheet ≡ sheetRanges bs
   unfolding isSheet
   no-head h =
-      refused-by (rw (ne-eqb (length bs) (4 + 16 * countIn bs) (λ e. omega arith), and-false (leb (countIn bs) limit && eqb (widthIn bs) 8)))
+      refused-by (rw (ne-eqb (length bs) (sheetLength (countIn bs)) (λ e. omega arith), and-false (leb (countIn bs) limit && eqb (widthIn bs) 8)))
 
   pub other-width : {w : ℕ} → w ≡ widthIn bs → (w ≡ 8 → ⊥) → refusal BadSheet ≡ sheetRanges bs
   unfolding isSheet
@@ -62,11 +62,11 @@ module _ (bs : List ℕ) where
     unfolding isSheet
     too-many h = let k : limit < countIn bs = omega arith in refused-by (rw (lt-leb (countIn bs) limit k))
 
-    pub other-length : (length bs ≡ 4 + 16 * n → ⊥) → refusal BadSheet ≡ sheetRanges bs
+    pub other-length : (length bs ≡ sheetLength n → ⊥) → refusal BadSheet ≡ sheetRanges bs
     unfolding isSheet
     other-length h =
-        let k : length bs ≡ 4 + 16 * countIn bs → ⊥ = λ e. h (rw count e) in
-        refused-by (rw (ne-eqb (length bs) (4 + 16 * countIn bs) k, and-false (leb (countIn bs) limit && eqb (widthIn bs) 8)))
+        let k : length bs ≡ sheetLength (countIn bs) → ⊥ = λ e. h (rw count e) in
+        refused-by (rw (ne-eqb (length bs) (sheetLength (countIn bs)) k, and-false (leb (countIn bs) limit && eqb (widthIn bs) 8)))
 
 abbrev pub arrays : ℕ → List ℕ → List ℕ → Coverage
 arrays n begins ends = record { n = n; begins = begins; ends = ends }
@@ -88,11 +88,11 @@ read-kept n bs =
     let k : length b ≡ length e = length-in n (drop 4 bs) ∙ sym (length-in n (drop (4 + 8 * n) bs)) in
     ap (λ (m : ℕ). arrays m (padded b) (padded e)) (sym (length-in n (drop 4 bs))) ∙ kept-paired b e k
 
-module _ (bs : List ℕ) (few : countIn bs ≤ limit) (wide : widthIn bs ≡ 8) (long : length bs ≡ 4 + 16 * countIn bs) where
+module _ (bs : List ℕ) (few : countIn bs ≤ limit) (wide : widthIn bs ≡ 8) (long : length bs ≡ sheetLength (countIn bs)) where
   head-read : isSheet (countIn bs) bs ≡ lawfulSheet (readAs (countIn bs) bs)
   unfolding isSheet
   head-read =
-      rw (le-leb (countIn bs) limit few, eq-eqb (widthIn bs) 8 wide, eq-eqb (length bs) (4 + 16 * countIn bs) long)
+      rw (le-leb (countIn bs) limit few, eq-eqb (widthIn bs) 8 wide, eq-eqb (length bs) (sheetLength (countIn bs)) long)
       (sym (sheet-test (readAs (countIn bs) bs) few ∙ ap (lawfulFrom 0) (read-ranges (countIn bs) bs)))
 
 -- bytes with a sheet's head and length, and the arrays read from them
@@ -100,7 +100,7 @@ pub record Headed (bs : List ℕ) (n : ℕ) (b e : List ℕ) : Type 0 where
   pub count : n ≡ countIn bs
   pub few : n ≤ limit
   pub wide : widthIn bs ≡ 8
-  pub long : length bs ≡ 4 + 16 * n
+  pub long : length bs ≡ sheetLength n
   pub begins : b ≡ padded (addressesIn n (drop 4 bs))
   pub ends : e ≡ padded (addressesIn n (drop (4 + 8 * n) bs))
 
@@ -111,7 +111,7 @@ module _ {bs : List ℕ} {n : ℕ} {b e : List ℕ} (t : Headed bs n b e) where
 
   decides : isSheet (countIn bs) bs ≡ lawfulSheet (arrays n b e)
   decides =
-      head-read bs (omega (arith, t .count, t .few)) (t .wide) (t .long ∙ ap (λ (k : ℕ). 4 + 16 * k) (t .count))
+      head-read bs (omega (arith, t .count, t .few)) (t .wide) (t .long ∙ ap sheetLength (t .count))
       ∙ ap lawfulSheet (sym same-read)
 
   pub not-lawful : lawfulSheet (arrays n b e) ≡ false → refusal BadSheet ≡ sheetRanges bs

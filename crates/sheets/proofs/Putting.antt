@@ -12,7 +12,7 @@ use Rattle.bytes.specs.Read.{pick}
 use Rattle.coverage.specs.Ranges.{limit}
 use Rattle.coverage.specs.Kept.{paired, firsts}
 use Rattle.bytes.specs.Written.{littleBytes}
-use Rattle.sheets.specs.Sheet.{addressBytes, sheetBytes}
+use Rattle.sheets.specs.Sheet.{addressBytes, sheetBytes, sheetLength}
 use Rattle.coverage.proofs.KeptLaws.{take-paired, length-paired, begins-paired, ends-paired}
 use Rattle.sheets.proofs.SheetLaws.{length-addresses, sheet-spread}
 use Rattle.bytes.proofs.WrittenLaws.{length-little}
@@ -86,7 +86,7 @@ module _ (bs es : List ℕ) (n : ℕ) (few : n ≤ limit) (lb : length bs ≡ li
       (sheet-spread (paired (take n bs) (take n es))
       ∙ rw (begins-paired (take n bs) (take n es) k, ends-paired (take n bs) (take n es) k, length-paired (take n bs) (take n es) k, taken-begins))
 
-  pub sheet-length : length (sheetBytes (firsts n bs es)) ≡ 4 + 16 * n
+  pub sheet-length : length (sheetBytes (firsts n bs es)) ≡ sheetLength n
   sheet-length =
       rw (head-spread, length-append, length-addresses (take n bs), length-addresses (take n es), taken-begins, taken-ends) (omega arith)
 

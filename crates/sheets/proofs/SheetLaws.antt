@@ -16,7 +16,7 @@ use Rattle.bytes.specs.declared.error.Error.the-variants.{BadSheet}
 use Rattle.coverage.specs.Ranges.{Range, limit}
 use Rattle.coverage.specs.Kept.{paired, begins, ends, rangesOf, lawfulFrom, lawfulSheet}
 use Rattle.bytes.specs.Written.{littleBytes}
-use Rattle.sheets.specs.Sheet.{addressBytes, sheetBytes, sheetKept, addressesIn, countIn, widthIn, rangesIn, isSheet, sheetRanges}
+use Rattle.sheets.specs.Sheet.{addressBytes, sheetBytes, sheetKept, addressesIn, countIn, widthIn, rangesIn, isSheet, sheetRanges, sheetLength}
 use Rattle.coverage.specs.declared.Coverage.{Coverage}
 use Rattle.coverage.proofs.Small.{All, Small}
 use Rattle.bytes.proofs.Order.{lt-or-le}
@@ -62,7 +62,7 @@ module _ (rs : List Range) (l : Lawful rs) where
   width-back : widthIn (sheetBytes rs) ≡ 8
   width-back = ap widthIn (sheet-spread rs) ∙ little-two 8 0
 
-  length-back : length (sheetBytes rs) ≡ 4 + 16 * length rs
+  length-back : length (sheetBytes rs) ≡ sheetLength (length rs)
   length-back =
       ap length (sheet-spread rs)
       ∙ rw (length-append, length-addresses (begins rs), length-addresses (ends rs), length-map rs (λ (r : Range). r .0), length-map rs (λ (r : Range). r .1)) (omega arith)
@@ -91,7 +91,7 @@ module _ (rs : List Range) (l : Lawful rs) where
   is-sheet : isSheet (length rs) (sheetBytes rs) ≡ true
   unfolding isSheet
   is-sheet =
-      rw (le-leb (length rs) limit (l .few), width-back, eq-eqb (length (sheetBytes rs)) (4 + 16 * length rs) length-back, ranges-back)
+      rw (le-leb (length rs) limit (l .few), width-back, eq-eqb (length (sheetBytes rs)) (sheetLength (length rs)) length-back, ranges-back)
       (from-lawful 0 rs (l .apart) (l .small))
 
   -- a sheet reads back to its ranges
@@ -169,7 +169,7 @@ paired-words (b ∷ bs) [] w = tt
 paired-words (b ∷ bs) (e ∷ es) w = (w .0, paired-words bs es (w .1))
 
 -- bytes with the count, width and length of a sheet are the sheet of their ranges
-module _ (n : ℕ) (bs : List ℕ) (h : (i : ℕ) → getD bs i 0 < 256) (size : length bs ≡ 4 + 16 * n) where
+module _ (n : ℕ) (bs : List ℕ) (h : (i : ℕ) → getD bs i 0 < 256) (size : length bs ≡ sheetLength n) where
   same-length : length (addressesIn n (drop 4 bs)) ≡ length (addressesIn n (drop (4 + 8 * n) bs))
   same-length = length-in n (drop 4 bs) ∙ sym (length-in n (drop (4 + 8 * n) bs))
 
@@ -203,13 +203,13 @@ module _ (n : ℕ) (bs : List ℕ) (h : (i : ℕ) → getD bs i 0 < 256) (size :
       (words-in n (drop (4 + 8 * n) bs) (drop-bytes (4 + 8 * n) bs h) (omega (arith, length-drop (4 + 8 * n) bs)))
 
 -- what the test for a sheet tells
-sheet-is : (n : ℕ) (bs : List ℕ) → isSheet n bs ≡ true → (n ≤ limit) × (widthIn bs ≡ 8) × (length bs ≡ 4 + 16 * n) × (lawfulFrom 0 (rangesIn n bs) ≡ true)
+sheet-is : (n : ℕ) (bs : List ℕ) → isSheet n bs ≡ true → (n ≤ limit) × (widthIn bs ≡ 8) × (length bs ≡ sheetLength n) × (lawfulFrom 0 (rangesIn n bs) ≡ true)
 unfolding isSheet
 sheet-is n bs e =
-    let p = and-eq-true-iff (leb n limit && eqb (widthIn bs) 8 && eqb (length bs) (4 + 16 * n)) (lawfulFrom 0 (rangesIn n bs)) .0 e in
-    let q = and-eq-true-iff (leb n limit && eqb (widthIn bs) 8) (eqb (length bs) (4 + 16 * n)) .0 (p .0) in
+    let p = and-eq-true-iff (leb n limit && eqb (widthIn bs) 8 && eqb (length bs) (sheetLength n)) (lawfulFrom 0 (rangesIn n bs)) .0 e in
+    let q = and-eq-true-iff (leb n limit && eqb (widthIn bs) 8) (eqb (length bs) (sheetLength n)) .0 (p .0) in
     let r = and-eq-true-iff (leb n limit) (eqb (widthIn bs) 8) .0 (q .0) in
-    (leb-true n limit (r .0), eqb-true (widthIn bs) 8 (r .1), eqb-true (length bs) (4 + 16 * n) (q .1), p .1)
+    (leb-true n limit (r .0), eqb-true (widthIn bs) 8 (r .1), eqb-true (length bs) (sheetLength n) (q .1), p .1)
 
 sheet-given : (bs : List ℕ) {rs : List Range} → sheetRanges bs ≡ gives rs → (isSheet (countIn bs) bs ≡ true) × (rangesIn (countIn bs) bs ≡ rs)
 unfolding sheetRanges

@@ -19,10 +19,15 @@ ghost use Rattle.bytes.specs.Endianity.{little};
 ghost use Rattle.bytes.specs.Error.{refusal};
 ghost use Rattle.coverage.specs.Ranges.{limit};
 ghost use Rattle.coverage.specs.Kept.{firsts, padded};
-ghost use Rattle.sheets.specs.Sheet.{addressBytes, sheetBytes, sheetKept, addressesIn, sheetRanges};
+ghost use Rattle.sheets.specs.Sheet.{addressBytes, sheetBytes, sheetLength, sheetKept, addressesIn, sheetRanges};
 ghost use Rattle.coverage.specs.Output.{output, written};
 ghost use Rattle.coverage.specs.Told.{toldWrote, toldMade, made};
 ghost use Rattle.sheets.specs.Judged.{Judged};
+
+// How many bytes of a sheet stand before its addresses, and how many it has for each range.
+pub const HEAD: usize = 4;
+
+pub const RANGE: usize = 16;
 
 // Whether a coverage makes a lawful sheet, and an output is long enough for it.
 enum Judgement {
@@ -47,15 +52,15 @@ fn put_addresses(out: &mut [u8], at: usize, n: usize, addresses: &[u64; LIMIT])
 
 // The sheet of the first n ranges, from the output's begin on.
 fn write(n: usize, begins: &[u64; LIMIT], ends: &[u64; LIMIT], out: &mut [u8])
-    requires { ⌜ (n ≤ limit) × (length (now begins) ≡ limit) × (length (now ends) ≡ limit) × (4 + 16 * n ≤ length (now out)) ⌝ }
+    requires { ⌜ (n ≤ limit) × (length (now begins) ≡ limit) × (length (now ends) ≡ limit) × (sheetLength n ≤ length (now out)) ⌝ }
     ensures { λ _. ⌜ now (out .exit) ≡ sets (now (out .entry)) 0 (sheetBytes (firsts n (now (begins .entry)) (now (ends .entry)))) ⌝ }
 {
     out[0] = (n % 256) as u8;
     out[1] = (n / 256 % 256) as u8;
     out[2] = 8;
     out[3] = 0;
-    put_addresses(out, 4, n, begins);
-    put_addresses(out, 4 + 8 * n, n, ends);
+    put_addresses(out, HEAD, n, begins);
+    put_addresses(out, HEAD + 8 * n, n, ends);
 }
 
 // Whether a coverage of n ranges makes a lawful sheet (else 12), and there is room for it (else 11).
@@ -63,10 +68,10 @@ fn judge(lawful: bool, n: usize, room: usize) -> Judgement
     ensures { λ r. ⌜ Judged lawful n room r ⌝ }
 {
     if lawful {
-        if room < 4 {
+        if room < HEAD {
             return Judgement::NoSpace;
         }
-        if (room - 4) / 16 < n {
+        if (room - HEAD) / RANGE < n {
             return Judgement::NoSpace;
         }
         return Judgement::Fits;
@@ -85,7 +90,7 @@ pub fn sheet(coverage: Coverage, out: &mut [u8]) -> Wrote
         Judgement::Fits => {
             let begins = coverage.begins;
             let ends = coverage.ends;
-            let len = 4 + 16 * n;
+            let len = HEAD + RANGE * n;
             write(n, &begins, &ends, out);
             Wrote::Bytes(len)
         }
@@ -149,7 +154,7 @@ pub fn from_sheet(bytes: &[u8]) -> Made
     ensures { λ r. ⌜ toldMade r ≡ made (sheetRanges (now (bytes .entry))) ⌝ }
 {
     let len = bytes.len();
-    if len < 4 {
+    if len < HEAD {
         return bad_sheet();
     }
     let n = half_word(bytes, 0) as usize;
@@ -159,11 +164,11 @@ pub fn from_sheet(bytes: &[u8]) -> Made
     if half_word(bytes, 2) != 8 {
         return bad_sheet();
     }
-    if len != 4 + 16 * n {
+    if len != HEAD + RANGE * n {
         return bad_sheet();
     }
-    let begins = addresses(bytes, 4, n);
-    let ends = addresses(bytes, 4 + 8 * n, n);
+    let begins = addresses(bytes, HEAD, n);
+    let ends = addresses(bytes, HEAD + 8 * n, n);
     let coverage = Coverage { n, begins, ends };
     if !is_lawful(coverage) {
         return bad_sheet();

@@ -4,13 +4,15 @@ use coverage::Coverage;
 use coverage::LIMIT;
 use coverage::Verdict;
 use libc::STDOUT_FILENO;
+use sheets::HEAD;
+use sheets::RANGE;
 ghost use mathlib.Core.Path.{_≡_};
 ghost use Rattle.show.specs.Show.{isGiven};
 ghost use Rattle.sheets.specs.Sheet.{sheetRanges};
 
 // The bytes of a sheet of one range more than a coverage keeps, and one more: such a sheet is refused for its count, and a
 // longer input for its length, neither because it was cut.
-pub const ROOM: usize = 4 + 16 * (LIMIT + 1) + 1;
+pub const ROOM: usize = HEAD + RANGE * (LIMIT + 1) + 1;
 
 fn print_refusal(e: Error) {
     io::write_all(STDOUT_FILENO, b"refused ");
