@@ -14,8 +14,13 @@ use coverage::collect::Gathered;
 use coverage::collect::cover_long;
 use coverage::collect::cover_short;
 ghost use mathlib.Core.Path.{_≡_};
+ghost use Prim.Native.Nat.{_-_};
 ghost use Rattle.bytes.specs.Common.{isSplit};
-ghost use Rattle.canonical.specs.Canonical.{canonicalOf};
+ghost use Rattle.bytes.specs.Read.{gives, andThen};
+ghost use Rattle.canonical.specs.Canonical.{canonicalBytes, canonicalOf};
+ghost use Rattle.coverage.specs.Ranges.{limit};
+ghost use Rattle.coverage.specs.Kept.{firsts};
+ghost use Rattle.coverage.specs.Gathered.{short, coverageWithin, orTooMany};
 ghost use Rattle.coverage.specs.Covered.{rangeList, locationList, holding, source};
 ghost use Rattle.coverage.specs.Output.{output, written};
 ghost use Rattle.coverage.specs.Told.{toldWrote};
@@ -37,7 +42,7 @@ fn canonical_long(
     first_ends: &[u64; SHORT],
     out: &mut [u8],
 ) -> Wrote
-    ensures { λ r. ⌜ output (toldWrote r) (now (out .exit)) ≡ written (andThen (orTooMany (coverageWithin (firsts short (now («first_begins» .entry)) (now («first_ends» .entry))) (limit - short) (source (holding locations split) encoding endian (now (section .entry)) (offset .0) «base_address» (now («debug_addr» .entry)) «debug_addr_base»)))) (now (out .entry)) ⌝ }
+    ensures { λ r. ⌜ output (toldWrote r) (now (out .exit)) ≡ written (andThen (orTooMany (coverageWithin (firsts short (now («first_begins» .entry)) (now («first_ends» .entry))) (limit - short) (source (holding locations split) encoding endian (now (section .entry)) (offset .0) «base_address» (now («debug_addr» .entry)) «debug_addr_base»))) (λ rs. gives (canonicalBytes rs))) (now (out .entry)) ⌝ }
 {
     if again {
         return canonical_long(

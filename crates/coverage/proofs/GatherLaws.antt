@@ -395,6 +395,7 @@ opened-inside p s offset base {w} q = chosen (isSize (p .«address_size»)) _ _ 
     inner : (t : Bool) → leb offset (length s) ≡ t → (n : ℕ) (vs : List ℕ) → pick t (gives (walkAt offset base)) (refused n vs) ≡ gives w → w .at ≤ length s
     inner true e n vs f = let z : offset ≡ w .at = cc in omega (arith, leb-true offset (length s) e)
     inner false e n vs f = let z : _≡_ {A = ℕ} 0 1 = cc in absurd (omega arith)
+
     chosen : (t : Bool) (n : ℕ) (vs : List ℕ) → pick t (pick (leb offset (length s)) (gives (walkAt offset base)) (refusal UnexpectedEof)) (refused n vs) ≡ gives w → w .at ≤ length s
     chosen true n vs f = inner (leb offset (length s)) refl _ _ f
     chosen false n vs f = let z : _≡_ {A = ℕ} 0 1 = cc in absurd (omega arith)

@@ -1,11 +1,10 @@
 -- The first ranges are those of the short arrays; for the others there is the room that is left. Assumes nothing.
 use native.Mathlib.Omega.{arith}
 use mathlib.Core.List.{List}
-use mathlib.Core.Path.{_≡_, ap₂, _∙_}
-use Prim.Native.Nat.{ℕ, _-_}
-use lib.ListN.{length}
+use mathlib.Core.Path.{ap₂, _∙_}
+use Prim.Native.Nat.{ℕ}
 use Rattle.coverage.proofs.GatherLaws.{firsts-copied}
-use Rattle.coverage.specs.Ranges.{Range, limit}
+use Rattle.coverage.specs.Ranges.{Range}
 use Rattle.coverage.specs.Covered.{holding, source}
 use Rattle.coverage.specs.Gathered.{short, coverageWithin}
 use borrow.Author.Needs.{needs}
