@@ -1,5 +1,5 @@
--- Ranges gathered at the front of two arrays, a call of the walk at a time, the coverage that they make, and their places in a
--- caller's arrays. Assumes nothing.
+-- Ranges gathered at the front of two arrays, a call of the walk at a time, the coverage that they make, with more room too, and
+-- their places in a caller's arrays. Assumes nothing.
 use mathlib.Core.Path.{_≡_, refl, sym, ap, ap₂, subst, _∙_}
 use mathlib.Core.Bool.{Bool, true, false}
 use mathlib.Core.List.{List, [], _∷_, _++_, append-assoc, append-nil}

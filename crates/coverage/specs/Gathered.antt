@@ -32,11 +32,12 @@ pub data Within : Type 0 where
   all : ℕ → List Range → Within
   full : List Range → Walk → Within
 
--- ranges in front of them
+-- the same with ranges in front of them
 abbrev pub behind : List Range → Within → Within
 behind done (all n rs) = all (length done + n) (done ++ rs)
 behind done (full rs w) = full (done ++ rs) w
 
+-- ranges in front of those of an answer, unless it is a refusal
 abbrev pub inFront : List Range → Result Within → Result Within
 inFront done r = andThen r (λ g. gives (behind done g))
 
@@ -53,7 +54,7 @@ unfoldable pub nonempty : List Range → List Range
 nonempty [] = []
 nonempty (r ∷ rs) = pick (ltb (r .0) (r .1)) (r ∷ nonempty rs) (nonempty rs)
 
--- the runs of all ranges
+-- where all are there, their runs; a range that holds no address, as no list yields one, adds nothing to them
 abbrev pub covering : Within → Within
 covering (all n rs) = let k = runs (nonempty rs) in all (length k) k
 covering (full rs w) = full rs w
