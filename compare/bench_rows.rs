@@ -399,7 +399,7 @@ fn shuffled(count: u64) -> Vec<u64> {
 fn sets(rows: &mut Rows<'_>) {
     let plan = Plan::new(Kind::Ranges, Pattern::All(StartLength), 8, false);
     for (word, task) in [("coverage", Task::Coverage), ("canonical", Task::Canonical)] {
-        for count in [1, 4, 32, 1024] {
+        for count in [1, 4, 32, 33, 1024] {
             let orders = [
                 ("ascending", (0..count).collect::<Vec<_>>()),
                 ("descending", (0..count).rev().collect()),

@@ -1,33 +1,33 @@
 -- What the canonical calls write is the canonical list of the coverage handed in, or of the list, or they are refused. Assumes
 -- nothing.
-use mathlib.Core.Path.{_≡_, refl, sym, _∙_}
+use mathlib.Core.Path.{_≡_, refl, sym, ap, _∙_}
 use mathlib.Core.Bool.{true, false}
 use mathlib.Core.List.{List}
-use Prim.Native.Nat.{ℕ, _≤_}
+use Prim.Native.Nat.{ℕ, _+_, _≤_}
 use native.Mathlib.Omega.{arith}
 use lib.ListN.{length}
-use Rattle.bytes.specs.Read.{gives}
+use Rattle.bytes.specs.Read.{Result, gives}
 use Rattle.bytes.specs.Error.{number, values, refusal}
 use Rattle.bytes.specs.declared.error.Error.{Error}
 use Rattle.bytes.specs.declared.error.Error.the-variants.{BadSheet}
-use Rattle.coverage.specs.Ranges.{limit}
-use Rattle.coverage.specs.Covered.{Source, coverageOf, Bytes}
+use Rattle.coverage.specs.Ranges.{Range, limit}
+use Rattle.coverage.specs.Covered.{Source, coverageOf}
 use Rattle.coverage.specs.Kept.{firsts, lawfulSheet}
-use Rattle.coverage.specs.Gathered.{Gathered, coverageIn}
+use Rattle.coverage.specs.Gathered.{coverageWithin, toldGathered}
 use Rattle.canonical.specs.Canonical.{canonicalBytes, canonicalOf, canonicalKept}
 use Rattle.coverage.specs.Output.{output, written}
 use Rattle.coverage.specs.Told.{toldWrote}
 use Rattle.coverage.specs.declared.Coverage.{Coverage}
-use Rattle.coverage.specs.declared.collect.Collected.{Collected}
-use Rattle.coverage.specs.declared.collect.Collected.the-variants as collected
+use Rattle.coverage.specs.declared.collect.Gathered.{Gathered}
+use Rattle.coverage.specs.declared.collect.Gathered.the-variants as gathered
 use Rattle.coverage.specs.declared.Wrote.{Wrote}
 use Rattle.coverage.specs.declared.Wrote.the-variants as wrote
 use Rattle.coverage.proofs.KeptLaws.{ranges-are}
 use Rattle.coverage.proofs.Checked.{lawful-few, lawful-apart}
 use Rattle.coverage.proofs.OutputLaws.{written-refused, written-short, all-written}
-use Rattle.coverage.proofs.GatherLaws.{settled-got}
-use Rattle.coverage.proofs.SortLaws.{length-first}
-use Rattle.canonical.proofs.Sources.{kept-bytes, source-lawful}
+use Rattle.coverage.proofs.CoveredLaws.{mapped}
+use Rattle.coverage.proofs.GatherLaws.{told-few, told-apart}
+use Rattle.canonical.proofs.Sources.{kept-bytes}
 use Rattle.canonical.specs.Arrays.{Arrays}
 use Rattle.canonical.specs.Put.{Put}
 
@@ -51,21 +51,22 @@ module _ (c : Coverage) (l : List ℕ) where
       → output (toldWrote r) m ≡ written (canonicalKept c) l
   canonical-put r law p = rw (kept-bytes c law, ranges-are c) (put-written (canonicalBytes (firsts (c .n) (c .begins) (c .ends))) l r p)
 
--- the ranges that a call gathered, whose list was not too long for its arrays
-module _ (x : Source) (b : Bytes x) {room : ℕ} (f : room ≤ limit) {k : Collected} {bs es : List ℕ} (g : Gathered room (coverageIn x) k bs es) {n : ℕ} (q : k ≡ collected.Got n) where
-  pub list-arrays : Arrays n bs es
-  list-arrays =
-      let c = settled-got x f g q in
-      let w = source-lawful x (c .0) b in
-      let s = g .sized in
-      let l = length-first bs es n (omega (arith, c .1, s .0)) (omega (arith, c .1, s .1)) in
-      record { few = omega (arith, w .few); room = omega (arith, c .1, s .0); sized = (refl, s .1 ∙ sym (s .0)); apart = w .apart }
+-- what a call gathered has the arrays of a canonical list
+pub list-arrays : (done : List Range) (room : ℕ) (x : Source) (k : Gathered) (bs es : List ℕ) → toldGathered k bs es ≡ coverageWithin done room x
+    → length done + room ≤ limit → length done + room ≤ length bs → length es ≡ length bs → {n : ℕ} → k ≡ gathered.All n → Arrays n bs es
+list-arrays done room x k bs es g f r s q =
+    let h = told-few done room x k bs es g q in
+    record { few = omega arith; room = omega arith; sized = (refl, s); apart = told-apart done room x k bs es g q }
 
-  pub list-put : (l : List ℕ) {m : List ℕ} (r : Wrote) → Put r (canonicalBytes (firsts n bs es)) l m → output (toldWrote r) m ≡ written (canonicalOf x) l
-  unfolding canonicalOf
-  list-put l r p = rw (settled-got x f g q .0) (put-written (canonicalBytes (firsts n bs es)) l r p)
+-- the canonical list of ranges that are given, or their refusal
+module _ (r : Result (List Range)) (l : List ℕ) where
+  pub list-put : {rs : List Range} (w : Wrote) {m : List ℕ} → r ≡ gives rs → Put w (canonicalBytes rs) l m → output (toldWrote w) m ≡ written (mapped canonicalBytes r) l
+  list-put {rs} w e p = rw e (put-written (canonicalBytes rs) l w p)
 
--- a list's coverage is refused
-pub list-refused : (x : Source) (l : List ℕ) (e : Error) → coverageOf x ≡ refusal e → output (refusal e) l ≡ written (canonicalOf x) l
+  pub list-refused : (e : Error) → r ≡ refusal e → output (refusal e) l ≡ written (mapped canonicalBytes r) l
+  list-refused e q = rw q (sym (written-refused (number e) (values e) l))
+
+-- so a list's, whose coverage is given
+pub list-written : (x : Source) (l : List ℕ) {r : Result (List Range)} → coverageOf x ≡ r → written (mapped canonicalBytes r) l ≡ written (canonicalOf x) l
 unfolding canonicalOf
-list-refused x l e q = rw q (sym (written-refused (number e) (values e) l))
+list-written x l q = ap (λ r. written (mapped canonicalBytes r) l) (sym q)

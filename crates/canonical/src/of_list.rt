@@ -7,34 +7,42 @@ use bytes::common::RangeListsOffset;
 use bytes::endianity::RunTimeEndian;
 use bytes::error::Error;
 use coverage::LIMIT;
+use coverage::ListsOffset;
 use coverage::SHORT;
 use coverage::Wrote;
-use coverage::collect::Collected;
+use coverage::collect::Gathered;
 use coverage::collect::cover_long;
 use coverage::collect::cover_short;
 ghost use mathlib.Core.Path.{_≡_};
+ghost use Prim.Native.Nat.{_-_};
 ghost use Rattle.bytes.specs.Common.{isSplit};
-ghost use Rattle.canonical.specs.Canonical.{canonicalOf};
+ghost use Rattle.bytes.specs.Read.{gives, andThen};
+ghost use Rattle.canonical.specs.Canonical.{canonicalBytes, canonicalOf};
+ghost use Rattle.coverage.specs.Ranges.{limit};
+ghost use Rattle.coverage.specs.Kept.{firsts};
+ghost use Rattle.coverage.specs.Gathered.{short, coverageWithin, orTooMany};
 ghost use Rattle.coverage.specs.Covered.{rangeList, locationList, holding, source};
 ghost use Rattle.coverage.specs.Output.{output, written};
 ghost use Rattle.coverage.specs.Told.{toldWrote};
 
-// The canonical list of a list that yields more ranges than short arrays have room for. It calls itself once, so that it stays a
-// call: its arrays would else be made room for in every call.
+// The canonical list of a list that yields more ranges than short arrays have room for: of the ranges there, and those from an
+// offset on. It calls itself once, so that it stays a call: its arrays would else be made room for in every call.
 fn canonical_long(
     again: bool,
     section: &[u8],
     debug_addr: &[u8],
     debug_addr_base: DebugAddrBase,
-    offset: u64,
+    offset: ListsOffset,
     base_address: u64,
     encoding: Encoding,
     endian: RunTimeEndian,
     locations: bool,
     split: bool,
+    first_begins: &[u64; SHORT],
+    first_ends: &[u64; SHORT],
     out: &mut [u8],
 ) -> Wrote
-    ensures { λ r. ⌜ output (toldWrote r) (now (out .exit)) ≡ written (canonicalOf (source (holding locations split) encoding endian (now (section .entry)) offset «base_address» (now («debug_addr» .entry)) «debug_addr_base»)) (now (out .entry)) ⌝ }
+    ensures { λ r. ⌜ output (toldWrote r) (now (out .exit)) ≡ written (andThen (orTooMany (coverageWithin (firsts short (now («first_begins» .entry)) (now («first_ends» .entry))) (limit - short) (source (holding locations split) encoding endian (now (section .entry)) (offset .0) «base_address» (now («debug_addr» .entry)) «debug_addr_base»))) (λ rs. gives (canonicalBytes rs))) (now (out .entry)) ⌝ }
 {
     if again {
         return canonical_long(
@@ -48,6 +56,8 @@ fn canonical_long(
             endian,
             locations,
             split,
+            first_begins,
+            first_ends,
             out,
         );
     }
@@ -63,12 +73,14 @@ fn canonical_long(
         endian,
         locations,
         split,
+        first_begins,
+        first_ends,
         &mut begins,
         &mut ends,
     ) {
-        Collected::Got(n) => super::put_list(n, &begins, &ends, out),
-        Collected::Full => Wrote::Refused(Error::TooManyRanges),
-        Collected::Refused(error) => Wrote::Refused(error),
+        Gathered::All(n) => super::put_list(n, &begins, &ends, out),
+        Gathered::Full(_) => Wrote::Refused(Error::TooManyRanges),
+        Gathered::Refused(error) => Wrote::Refused(error),
     }
 }
 
@@ -77,7 +89,7 @@ fn canonical_list(
     section: &[u8],
     debug_addr: &[u8],
     debug_addr_base: DebugAddrBase,
-    offset: u64,
+    offset: ListsOffset,
     base_address: u64,
     encoding: Encoding,
     endian: RunTimeEndian,
@@ -85,7 +97,7 @@ fn canonical_list(
     split: bool,
     out: &mut [u8],
 ) -> Wrote
-    ensures { λ r. ⌜ output (toldWrote r) (now (out .exit)) ≡ written (canonicalOf (source (holding locations split) encoding endian (now (section .entry)) offset «base_address» (now («debug_addr» .entry)) «debug_addr_base»)) (now (out .entry)) ⌝ }
+    ensures { λ r. ⌜ output (toldWrote r) (now (out .exit)) ≡ written (canonicalOf (source (holding locations split) encoding endian (now (section .entry)) (offset .0) «base_address» (now («debug_addr» .entry)) «debug_addr_base»)) (now (out .entry)) ⌝ }
 {
     let mut begins = [0u64; SHORT];
     let mut ends = [0u64; SHORT];
@@ -102,21 +114,23 @@ fn canonical_list(
         &mut begins,
         &mut ends,
     ) {
-        Collected::Got(n) => super::put_list(n, &begins, &ends, out),
-        Collected::Full => canonical_long(
+        Gathered::All(n) => super::put_list(n, &begins, &ends, out),
+        Gathered::Full(walk) => canonical_long(
             true,
             section,
             debug_addr,
             debug_addr_base,
-            offset,
-            base_address,
+            ListsOffset(walk.at as u64),
+            walk.base_address,
             encoding,
             endian,
             locations,
             split,
+            &begins,
+            &ends,
             out,
         ),
-        Collected::Refused(e) => Wrote::Refused(e),
+        Gathered::Refused(e) => Wrote::Refused(e),
     }
 }
 
@@ -137,7 +151,7 @@ pub fn canonical_ranges(
         section,
         debug_addr,
         debug_addr_base,
-        offset.0,
+        ListsOffset(offset.0),
         base_address,
         encoding,
         endian,
@@ -166,7 +180,7 @@ pub fn canonical_locations(
         section,
         debug_addr,
         debug_addr_base,
-        offset.0,
+        ListsOffset(offset.0),
         base_address,
         encoding,
         endian,

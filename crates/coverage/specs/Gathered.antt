@@ -1,19 +1,21 @@
--- The ranges that a call gathered in two lent arrays, and those that a list yields.
+-- A list gathered in two lent arrays: all its ranges, or those that there is room for and where the others come from.
 use mathlib.Core.Bool.{Bool, true, false}
-use mathlib.Core.List.{List}
+use mathlib.Core.List.{List, [], _∷_, _++_}
 use mathlib.Core.Path.{_≡_}
-use Prim.Native.Nat.{ℕ, _≤_, _<_}
+use Prim.Native.Nat.{ℕ, zero, suc, _+_, _≤_, _<_}
+use lib.Dec.{ltb}
 use lib.ListN.{length, set}
-use Rattle.bytes.specs.Read.{Result, gives, andThen}
+use Rattle.bytes.specs.Read.{Result, gives, refused, andThen, pick}
 use Rattle.bytes.specs.Error.{refusal}
-use Rattle.lists.specs.Open.{opened}
 use Rattle.bytes.specs.declared.error.Error.the-variants.{TooManyRanges}
+use Rattle.lists.specs.Open.{opened}
+use Rattle.lists.specs.Walk.{item, Trace, over, handed}
+use Rattle.lists.specs.declared.Walk.{Walk}
 use Rattle.coverage.specs.Ranges.{Range, runs}
-use Rattle.coverage.specs.Covered.{yieldedIn, Source, traceOf}
+use Rattle.coverage.specs.Covered.{Source, source, traceOf}
 use Rattle.coverage.specs.Kept.{firsts}
-use Rattle.coverage.specs.Sorted.{Sized}
-use Rattle.coverage.specs.declared.collect.Collected.{Collected}
-use Rattle.coverage.specs.declared.collect.Collected.the-variants as collected
+use Rattle.coverage.specs.declared.collect.Gathered.{Gathered}
+use Rattle.coverage.specs.declared.collect.Gathered.the-variants as gathered
 
 -- how many ranges the arrays have room for in which a list is gathered first
 abbrev pub short : ℕ
@@ -24,27 +26,57 @@ abbrev pub Stored : Bool → Range → ℕ → List ℕ → List ℕ → List �
 Stored true r n bs es xs ys = (n < length bs) × (xs ≡ set bs n (r .0)) × (ys ≡ set es n (r .1))
 Stored false r n bs es xs ys = (length bs ≤ n) × (xs ≡ bs) × (ys ≡ es)
 
--- no more than there is room for
-abbrev pub Few : ℕ → Collected → Type 0
-Few room (collected.Got n) = n ≤ room
-Few room collected.Full = Unit
-Few room (collected.Refused e) = Unit
+-- ranges where there is room for some number of them: all, and how many they are; or those that there is room for, and the walk
+-- from which the others come
+pub data Within : Type 0 where
+  all : ℕ → List Range → Within
+  full : List Range → Walk → Within
 
--- what is told of what would be given with room for some number of ranges: there is no room for one more, or the ranges at the
--- front of two arrays, or the refusal, are the answer with this room and with more
-abbrev pub Tells : ℕ → (ℕ → Result (List Range)) → Collected → List ℕ → List ℕ → Type 0
-Tells room given (collected.Got n) bs es = (m : ℕ) → room ≤ m → given m ≡ gives (firsts n bs es)
-Tells room given collected.Full bs es = given room ≡ refusal TooManyRanges
-Tells room given (collected.Refused e) bs es = (m : ℕ) → room ≤ m → given m ≡ refusal e
+-- the same with ranges in front of them
+abbrev pub behind : List Range → Within → Within
+behind done (all n rs) = all (length done + n) (done ++ rs)
+behind done (full rs w) = full (done ++ rs) w
 
--- what was gathered in two arrays of so many places
-pub record Gathered (room : ℕ) (given : ℕ → Result (List Range)) (r : Collected) (bs es : List ℕ) : Type 0 where
-  pub tells : Tells room given r bs es
-  pub few : Few room r
-  pub sized : Sized room bs es
+-- ranges in front of those of an answer, unless it is a refusal
+abbrev pub inFront : List Range → Result Within → Result Within
+inFront done r = andThen r (λ g. gives (behind done g))
 
--- the coverage of a list with room for some number of ranges
-unfoldable pub coverageIn : Source → ℕ → Result (List Range)
-coverageIn x room =
-    andThen (andThen (opened (x .encoding) (x .section) (x .offset) (x .«base_address»)) (λ w. yieldedIn room (traceOf x w)))
-    (λ rs. gives (runs rs))
+-- the ranges that a list yields from a walk on, with room for some number of them: the first refusal met is the answer, or that
+-- there is no room, whichever comes first
+unfoldable pub within : {D : Type 0} → ℕ → Walk → Trace D → Result Within
+within room v (over w) = gives (all 0 [])
+within room v (handed (refused n vs) w t) = refused n vs
+within zero v (handed (gives i) w t) = gives (full [] v)
+within (suc room) v (handed (gives (item b e d)) w t) = inFront ((b, e) ∷ []) (within room w t)
+
+-- the ranges that hold an address
+unfoldable pub nonempty : List Range → List Range
+nonempty [] = []
+nonempty (r ∷ rs) = pick (ltb (r .0) (r .1)) (r ∷ nonempty rs) (nonempty rs)
+
+-- where all are there, their runs; a range that holds no address, as no list yields one, adds nothing to them
+abbrev pub covering : Within → Within
+covering (all n rs) = let k = runs (nonempty rs) in all (length k) k
+covering (full rs w) = full rs w
+
+-- the coverage of ranges that are there already and of those that a list yields, with room for some number of the latter
+unfoldable pub coverageWithin : List Range → ℕ → Source → Result Within
+coverageWithin done room x =
+    andThen (opened (x .encoding) (x .section) (x .offset) (x .«base_address»))
+    (λ w. andThen (inFront done (within room w (traceOf x w))) (λ g. gives (covering g)))
+
+-- a list from a walk on: what comes then is a list that begins there
+abbrev pub restOf : Source → Walk → Source
+restOf x w = source (x .holds) (x .encoding) (x .endian) (x .section) (w .at) (w .«base_address») (x .table) (x .«table_base»)
+
+-- the ranges, or refusal 10 where there is no room for all
+abbrev pub orTooMany : Result Within → Result (List Range)
+orTooMany (gives (all n rs)) = gives rs
+orTooMany (gives (full rs w)) = refusal TooManyRanges
+orTooMany (refused n vs) = refused n vs
+
+-- what was gathered at the front of two arrays; where there is no room, at all their places
+abbrev pub toldGathered : Gathered → List ℕ → List ℕ → Result Within
+toldGathered (gathered.All n) bs es = gives (all n (firsts n bs es))
+toldGathered (gathered.Full w) bs es = gives (full (firsts (length bs) bs es) w)
+toldGathered (gathered.Refused e) bs es = refusal e

@@ -1,6 +1,7 @@
 // The ranges of a list gathered, and the coverage that they make.
 use super::Coverage;
 use super::LIMIT;
+use super::ListsOffset;
 use super::Made;
 use super::SHORT;
 use super::Verdict;
@@ -20,7 +21,7 @@ use lists::Walk;
 use lists::loclists::LocationAnswer;
 ghost use mathlib.Core.Path.{_≡_};
 ghost use mathlib.Core.Bool.{true};
-ghost use Prim.Native.Nat.{_≤_};
+ghost use Prim.Native.Nat.{_-_, _≤_};
 ghost use lib.ListN.{length};
 ghost use mathlib.Core.List.{[]};
 ghost use Rattle.bytes.specs.declared.common.Format.the-variants.{Dwarf32};
@@ -29,15 +30,23 @@ ghost use Rattle.bytes.specs.Reader.{isSize};
 ghost use Rattle.lists.specs.Convert.{tableAt};
 ghost use Rattle.lists.specs.Walk.{trace, listed};
 ghost use Rattle.coverage.specs.Ranges.{limit};
-ghost use Rattle.coverage.specs.Covered.{yieldedIn, rangeList, locationList, holding, source, coverageOf, readBack};
+ghost use Rattle.coverage.specs.Covered.{rangeList, locationList, holding, source, coverageOf, readBack};
 ghost use Rattle.coverage.specs.Told.{made, toldMade, toldCount, byCount};
 ghost use Rattle.coverage.specs.Sorted.{Sized};
-ghost use Rattle.coverage.specs.Gathered.{short, Stored, Gathered, coverageIn};
+ghost use Rattle.coverage.specs.Kept.{firsts};
+ghost use Rattle.coverage.specs.Gathered.{short, Stored, inFront, within, coverageWithin, toldGathered};
 
-// How many ranges were gathered; whether there was no room for one more.
+// How many ranges a coverage has; whether its list yields more than it may.
 pub enum Collected {
     Got(usize),
     Full,
+    Refused(Error),
+}
+
+// What was gathered at the front of two arrays: so many ranges; or there is no room for the one that comes next from a walk.
+pub enum Gathered {
+    All(usize),
+    Full(Walk),
     Refused(Error),
 }
 
@@ -54,7 +63,7 @@ fn store(range: Range, n: usize, begins: &mut [u64], ends: &mut [u64]) -> bool
     true
 }
 
-// The ranges that a list yields, at the front of the two arrays, unless these are full or the walk is refused before it ends.
+// The ranges that a list yields, behind those that stand at the front of the two arrays already.
 fn gather(
     section: &[u8],
     debug_addr: &[u8],
@@ -64,15 +73,17 @@ fn gather(
     endian: RunTimeEndian,
     locations: bool,
     split: bool,
+    done: usize,
     begins: &mut [u64],
     ends: &mut [u64],
-) -> Collected
+) -> Gathered
     requires { ⌜ isSize (encoding .«address_size») ≡ true ⌝ }
-    requires { ⌜ (length (now begins) ≤ limit) × Sized (length (now begins)) (now begins) (now ends) ⌝ }
-    ensures { λ r. ⌜ Gathered (length (now (begins .entry))) (λ room. yieldedIn room (trace (listed locations split encoding endian (now (section .entry))) (tableAt endian encoding «debug_addr_base» (now («debug_addr» .entry))) (encoding .«address_size») (length (now (section .entry))) start)) r (now (begins .exit)) (now (ends .exit)) ⌝ }
+    requires { ⌜ (done ≤ length (now begins)) × (length (now begins) ≤ limit) × Sized (length (now begins)) (now begins) (now ends) ⌝ }
+    ensures { λ r. ⌜ toldGathered r (now (begins .exit)) (now (ends .exit)) ≡ inFront (firsts done (now (begins .entry)) (now (ends .entry))) (within (length (now (begins .entry)) - done) start (trace (listed locations split encoding endian (now (section .entry))) (tableAt endian encoding «debug_addr_base» (now («debug_addr» .entry))) (encoding .«address_size») (length (now (section .entry))) start)) ⌝ }
+    ensures { λ _. ⌜ Sized (length (now (begins .entry))) (now (begins .exit)) (now (ends .exit)) ⌝ }
 {
     let mut walk = start;
-    let mut n: usize = 0;
+    let mut n = done;
     loop {
         match lists::listed::next(
             section,
@@ -90,20 +101,21 @@ fn gather(
                     n += 1;
                     walk = after;
                 } else {
-                    return Collected::Full;
+                    return Gathered::Full(walk);
                 }
             }
             LocationAnswer::End(_) => {
-                return Collected::Got(n);
+                return Gathered::All(n);
             }
             LocationAnswer::Refused(e, _) => {
-                return Collected::Refused(e);
+                return Gathered::Refused(e);
             }
         }
     }
 }
 
-// The coverage of the list at an offset, in two arrays, with room for as many ranges as they have places.
+// The coverage of the ranges that stand at the front of two arrays and of the list at an offset, with room for as many ranges as
+// the arrays have places.
 fn cover(
     section: &[u8],
     debug_addr: &[u8],
@@ -114,15 +126,17 @@ fn cover(
     endian: RunTimeEndian,
     locations: bool,
     split: bool,
+    done: usize,
     begins: &mut [u64],
     ends: &mut [u64],
-) -> Collected
-    requires { ⌜ (length (now begins) ≤ limit) × Sized (length (now begins)) (now begins) (now ends) ⌝ }
-    ensures { λ r. ⌜ Gathered (length (now (begins .entry))) (coverageIn (source (holding locations split) encoding endian (now (section .entry)) offset «base_address» (now («debug_addr» .entry)) «debug_addr_base»)) r (now (begins .exit)) (now (ends .exit)) ⌝ }
+) -> Gathered
+    requires { ⌜ (done ≤ length (now begins)) × (length (now begins) ≤ limit) × Sized (length (now begins)) (now begins) (now ends) ⌝ }
+    ensures { λ r. ⌜ toldGathered r (now (begins .exit)) (now (ends .exit)) ≡ coverageWithin (firsts done (now (begins .entry)) (now (ends .entry))) (length (now (begins .entry)) - done) (source (holding locations split) encoding endian (now (section .entry)) offset «base_address» (now («debug_addr» .entry)) «debug_addr_base») ⌝ }
+    ensures { λ _. ⌜ Sized (length (now (begins .entry))) (now (begins .exit)) (now (ends .exit)) ⌝ }
 {
     // Both lists open alike.
     match lists::rnglists::ranges(section, RangeListsOffset(offset), encoding, base_address) {
-        Opened::Refused(e) => Collected::Refused(e),
+        Opened::Refused(e) => Gathered::Refused(e),
         Opened::List(start) => match gather(
             section,
             debug_addr,
@@ -132,22 +146,24 @@ fn cover(
             endian,
             locations,
             split,
+            done,
             begins,
             ends,
         ) {
-            Collected::Got(n) => Collected::Got(super::sort::to_runs(begins, ends, n)),
-            Collected::Full => Collected::Full,
-            Collected::Refused(e) => Collected::Refused(e),
+            Gathered::All(n) => Gathered::All(super::sort::to_runs(begins, ends, n)),
+            Gathered::Full(walk) => Gathered::Full(walk),
+            Gathered::Refused(e) => Gathered::Refused(e),
         },
     }
 }
 
-// The coverage of the list at an offset, in short arrays.
+// The coverage of the list at an offset. The arrays are lent for work: what they held is not read, and what stands behind the
+// count, or of a list that is refused, has no meaning.
 pub fn cover_short(
     section: &[u8],
     debug_addr: &[u8],
     debug_addr_base: DebugAddrBase,
-    offset: u64,
+    offset: ListsOffset,
     base_address: u64,
     encoding: Encoding,
     endian: RunTimeEndian,
@@ -155,50 +171,59 @@ pub fn cover_short(
     split: bool,
     begins: &mut [u64; SHORT],
     ends: &mut [u64; SHORT],
-) -> Collected
-    ensures { λ r. ⌜ Gathered short (coverageIn (source (holding locations split) encoding endian (now (section .entry)) offset «base_address» (now («debug_addr» .entry)) «debug_addr_base»)) r (now (begins .exit)) (now (ends .exit)) ⌝ }
+) -> Gathered
+    ensures { λ r. ⌜ toldGathered r (now (begins .exit)) (now (ends .exit)) ≡ coverageWithin [] short (source (holding locations split) encoding endian (now (section .entry)) (offset .0) «base_address» (now («debug_addr» .entry)) «debug_addr_base») ⌝ }
+    ensures { λ _. ⌜ Sized short (now (begins .exit)) (now (ends .exit)) ⌝ }
 {
     cover(
         section,
         debug_addr,
         debug_addr_base,
-        offset,
+        offset.0,
         base_address,
         encoding,
         endian,
         locations,
         split,
+        0,
         begins,
         ends,
     )
 }
 
-// The coverage of the list at an offset, in arrays as long as a coverage's.
+// The same of a list that goes on at an offset with a base address, behind the first ranges of short arrays that were full. The
+// long arrays are lent for work, as the short ones are.
 pub fn cover_long(
     section: &[u8],
     debug_addr: &[u8],
     debug_addr_base: DebugAddrBase,
-    offset: u64,
+    offset: ListsOffset,
     base_address: u64,
     encoding: Encoding,
     endian: RunTimeEndian,
     locations: bool,
     split: bool,
+    first_begins: &[u64; SHORT],
+    first_ends: &[u64; SHORT],
     begins: &mut [u64; LIMIT],
     ends: &mut [u64; LIMIT],
-) -> Collected
-    ensures { λ r. ⌜ Gathered limit (coverageIn (source (holding locations split) encoding endian (now (section .entry)) offset «base_address» (now («debug_addr» .entry)) «debug_addr_base»)) r (now (begins .exit)) (now (ends .exit)) ⌝ }
+) -> Gathered
+    ensures { λ r. ⌜ toldGathered r (now (begins .exit)) (now (ends .exit)) ≡ coverageWithin (firsts short (now («first_begins» .entry)) (now («first_ends» .entry))) (limit - short) (source (holding locations split) encoding endian (now (section .entry)) (offset .0) «base_address» (now («debug_addr» .entry)) «debug_addr_base») ⌝ }
+    ensures { λ _. ⌜ Sized limit (now (begins .exit)) (now (ends .exit)) ⌝ }
 {
+    super::sort::copy(first_begins, begins, 0, SHORT);
+    super::sort::copy(first_ends, ends, 0, SHORT);
     cover(
         section,
         debug_addr,
         debug_addr_base,
-        offset,
+        offset.0,
         base_address,
         encoding,
         endian,
         locations,
         split,
+        SHORT,
         begins,
         ends,
     )

@@ -11,6 +11,9 @@ pub const LIMIT: usize = 1024;
 // How many ranges are gathered first in arrays of their own: nearly all lists yield no more.
 pub const SHORT: usize = 32;
 
+// The offset of a list of either kind, beside the word that says which.
+pub struct ListsOffset(pub u64);
+
 // The addresses that a list covers: a count, and in two arrays begins and ends, ascending, never overlapping or touching.
 // Places past the count are 0 and not read.
 pub struct Coverage {

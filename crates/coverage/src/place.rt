@@ -1,7 +1,9 @@
 // A coverage put into two arrays that a caller lends: written whole, 0 past the count. A refusal leaves them as they were.
 use super::LIMIT;
+use super::ListsOffset;
 use super::SHORT;
 use super::collect::Collected;
+use super::collect::Gathered;
 use super::collect::cover_long;
 use super::collect::cover_short;
 use bytes::common::DebugAddrBase;
@@ -13,13 +15,14 @@ use bytes::common::RangeListsOffset;
 use bytes::endianity::RunTimeEndian;
 ghost use mathlib.Core.Path.{_≡_};
 ghost use mathlib.Core.List.{[]};
-ghost use Prim.Native.Nat.{_≤_};
+ghost use Prim.Native.Nat.{_-_, _≤_};
 ghost use lib.ListN.{length, take};
 ghost use Rattle.bytes.specs.Common.{isSplit};
 ghost use Rattle.bytes.specs.declared.common.Format.the-variants.{Dwarf32};
 ghost use Rattle.coverage.specs.Ranges.{limit};
 ghost use Rattle.coverage.specs.Covered.{rangeList, locationList, holding, source, coverageOf, readBack};
-ghost use Rattle.coverage.specs.Kept.{padded};
+ghost use Rattle.coverage.specs.Kept.{firsts, padded};
+ghost use Rattle.coverage.specs.Gathered.{short, coverageWithin, orTooMany};
 ghost use Rattle.coverage.specs.Sorted.{AtLeast};
 ghost use Rattle.coverage.specs.Told.{placed, toldCount, placing};
 
@@ -45,23 +48,25 @@ fn place(n: usize, bs: &[u64], es: &[u64], begins: &mut [u64; LIMIT], ends: &mut
     keep(es, n, ends);
 }
 
-// The coverage of a list that yields more ranges than short arrays have room for. It calls itself once, so that it stays a call:
-// its arrays would else be made room for wherever a list is covered.
+// The coverage of a list that yields more ranges than short arrays have room for: the ranges there, and those from an offset on.
+// It calls itself once, so that it stays a call: its arrays would else be made room for wherever a list is covered.
 fn place_long(
     again: bool,
     section: &[u8],
     debug_addr: &[u8],
     debug_addr_base: DebugAddrBase,
-    offset: u64,
+    offset: ListsOffset,
     base_address: u64,
     encoding: Encoding,
     endian: RunTimeEndian,
     locations: bool,
     split: bool,
+    first_begins: &[u64; SHORT],
+    first_ends: &[u64; SHORT],
     begins: &mut [u64; LIMIT],
     ends: &mut [u64; LIMIT],
 ) -> Collected
-    ensures { λ r. ⌜ placed (toldCount r) (now (begins .exit)) (now (ends .exit)) ≡ placing (coverageOf (source (holding locations split) encoding endian (now (section .entry)) offset «base_address» (now («debug_addr» .entry)) «debug_addr_base»)) (now (begins .entry)) (now (ends .entry)) ⌝ }
+    ensures { λ r. ⌜ placed (toldCount r) (now (begins .exit)) (now (ends .exit)) ≡ placing (orTooMany (coverageWithin (firsts short (now («first_begins» .entry)) (now («first_ends» .entry))) (limit - short) (source (holding locations split) encoding endian (now (section .entry)) (offset .0) «base_address» (now («debug_addr» .entry)) «debug_addr_base»))) (now (begins .entry)) (now (ends .entry)) ⌝ }
 {
     if again {
         return place_long(
@@ -75,6 +80,8 @@ fn place_long(
             endian,
             locations,
             split,
+            first_begins,
+            first_ends,
             begins,
             ends,
         );
@@ -91,15 +98,17 @@ fn place_long(
         endian,
         locations,
         split,
+        first_begins,
+        first_ends,
         &mut bs,
         &mut es,
     ) {
-        Collected::Got(n) => {
+        Gathered::All(n) => {
             place(n, &bs, &es, begins, ends);
             Collected::Got(n)
         }
-        Collected::Full => Collected::Full,
-        Collected::Refused(e) => Collected::Refused(e),
+        Gathered::Full(_) => Collected::Full,
+        Gathered::Refused(e) => Collected::Refused(e),
     }
 }
 
@@ -108,7 +117,7 @@ fn place_list(
     section: &[u8],
     debug_addr: &[u8],
     debug_addr_base: DebugAddrBase,
-    offset: u64,
+    offset: ListsOffset,
     base_address: u64,
     encoding: Encoding,
     endian: RunTimeEndian,
@@ -117,7 +126,7 @@ fn place_list(
     begins: &mut [u64; LIMIT],
     ends: &mut [u64; LIMIT],
 ) -> Collected
-    ensures { λ r. ⌜ placed (toldCount r) (now (begins .exit)) (now (ends .exit)) ≡ placing (coverageOf (source (holding locations split) encoding endian (now (section .entry)) offset «base_address» (now («debug_addr» .entry)) «debug_addr_base»)) (now (begins .entry)) (now (ends .entry)) ⌝ }
+    ensures { λ r. ⌜ placed (toldCount r) (now (begins .exit)) (now (ends .exit)) ≡ placing (coverageOf (source (holding locations split) encoding endian (now (section .entry)) (offset .0) «base_address» (now («debug_addr» .entry)) «debug_addr_base»)) (now (begins .entry)) (now (ends .entry)) ⌝ }
 {
     let mut bs = [0u64; SHORT];
     let mut es = [0u64; SHORT];
@@ -134,25 +143,27 @@ fn place_list(
         &mut bs,
         &mut es,
     ) {
-        Collected::Got(n) => {
+        Gathered::All(n) => {
             place(n, &bs, &es, begins, ends);
             Collected::Got(n)
         }
-        Collected::Full => place_long(
+        Gathered::Full(walk) => place_long(
             true,
             section,
             debug_addr,
             debug_addr_base,
-            offset,
-            base_address,
+            ListsOffset(walk.at as u64),
+            walk.base_address,
             encoding,
             endian,
             locations,
             split,
+            &bs,
+            &es,
             begins,
             ends,
         ),
-        Collected::Refused(e) => Collected::Refused(e),
+        Gathered::Refused(e) => Collected::Refused(e),
     }
 }
 
@@ -175,7 +186,7 @@ pub fn place_ranges(
         section,
         debug_addr,
         debug_addr_base,
-        offset.0,
+        ListsOffset(offset.0),
         base_address,
         encoding,
         endian,
@@ -206,7 +217,7 @@ pub fn place_locations(
         section,
         debug_addr,
         debug_addr_base,
-        offset.0,
+        ListsOffset(offset.0),
         base_address,
         encoding,
         endian,
@@ -229,7 +240,7 @@ pub fn place_canonical(
         bytes,
         &bytes[..0],
         DebugAddrBase(0),
-        0,
+        ListsOffset(0),
         0,
         Encoding {
             address_size: 8,

@@ -1,13 +1,17 @@
--- The ranges gathered in arrays as long as a coverage's are the list's coverage; the measure is how often the call calls itself.
--- Assumes nothing.
+-- What was gathered in arrays as long as a coverage's is written as it is, with 10 for no room; the measure is how often the call
+-- calls itself. Assumes nothing.
 use Rattle.canonical.proofs.Answers.{list-arrays, list-put, list-refused}
-use Rattle.coverage.proofs.GatherLaws.{turns, settled-refused, full-refused}
+use Rattle.coverage.proofs.GatherLaws.{turns, told-all, told-full, told-refused}
 use Rattle.bytes.specs.declared.error.Error.the-variants.{TooManyRanges}
 use Rattle.coverage.specs.Covered.{holding, source}
+use Rattle.coverage.specs.Ranges.{limit}
+use Rattle.coverage.specs.Kept.{paired, firsts}
+use Rattle.coverage.specs.Gathered.{short, coverageWithin, orTooMany}
+use lib.ListN.{length-take}
 use borrow.Author.Needs.{needs}
-use mathlib.Core.Path.{sym, ap}
+use mathlib.Core.Path.{sym, ap, _∙_}
 use native.Mathlib.Omega.{arith}
-use Prim.Native.Nat.{ℕ, _<_}
+use Prim.Native.Nat.{ℕ, _-_, _<_}
 use borrow.Fn.Kinds.{In}
 use borrow.Fn.PlainCycle.{Measures, is, falls, and}
 use Rattle.canonical.proofs.of_list.canonical_long.Reads as canonical-long
@@ -18,23 +22,23 @@ use Rattle.coverage.proofs.collect.cover_long.Reads as cover-long-reads
 use Rattle.canonical.proofs.of_list.+canonical_long.{statement}
 use Rattle.canonical.proofs.of_list.+canonical_long.Tie.{close}
 
-abbrev μ-canonical-long : Measures 3 canonical-long-kinds.ps ℕ
+abbrev μ-canonical-long : Measures 5 canonical-long-kinds.ps ℕ
 μ-canonical-long κs a = turns (a .0)
 
-abbrev canonical-long-at : ℕ → In 3 canonical-long-kinds.ps
+abbrev canonical-long-at : ℕ → In 5 canonical-long-kinds.ps
 canonical-long-at t =
     and
-    3
+    5
     canonical-long-kinds.ps
-    (is 3 canonical-long-kinds.ps μ-canonical-long t)
+    (is 5 canonical-long-kinds.ps μ-canonical-long t)
     canonical-long.Pre
 
-abbrev canonical-long-below : ℕ → In 3 canonical-long-kinds.ps
+abbrev canonical-long-below : ℕ → In 5 canonical-long-kinds.ps
 canonical-long-below t =
     and
-    3
+    5
     canonical-long-kinds.ps
-    (falls 3 canonical-long-kinds.ps _<_ μ-canonical-long t)
+    (falls 5 canonical-long-kinds.ps _<_ μ-canonical-long t)
     canonical-long.Pre
 
 canonical-long-canonical-long-requires : (t : ℕ) → canonical-long-lts.Need-canonical-long-requires (
@@ -96,7 +100,7 @@ canonical-long-slice-aggregate-put-list :
       put-list-reads.Asked,
       put-list-reads.Learnt,
     ) (canonical-long-at t) canonical-long.Post
-canonical-long-slice-aggregate-put-list t c = sym ((c .before .before .before .before .cover-long .ensures) .sized .0)
+canonical-long-slice-aggregate-put-list t c = sym (c .before .before .before .before .cover-long .ensures .1 .0)
 
 canonical-long-slice-aggregate-put-list-2 :
     (t : ℕ) → canonical-long-lts.Need-slice-aggregate-put-list-2 (
@@ -107,7 +111,7 @@ canonical-long-slice-aggregate-put-list-2 :
       put-list-reads.Asked,
       put-list-reads.Learnt,
     ) (canonical-long-at t) canonical-long.Post
-canonical-long-slice-aggregate-put-list-2 t c = sym ((c .before .before .before .before .before .cover-long .ensures) .sized .1)
+canonical-long-slice-aggregate-put-list-2 t c = sym (c .before .before .before .before .before .cover-long .ensures .1 .1)
 
 canonical-long-put-list-requires : (t : ℕ) → canonical-long-lts.Need-put-list-requires (
   canonical-long-below t,
@@ -117,7 +121,11 @@ canonical-long-put-list-requires : (t : ℕ) → canonical-long-lts.Need-put-lis
   put-list-reads.Asked,
   put-list-reads.Learnt,
 ) (canonical-long-at t) canonical-long.Post
-canonical-long-put-list-requires t c κs = let a = c .before .before .before .before .before .before .before .before .before .before .before .before .before .args in list-arrays (source (holding (a .locations) (a .split)) (a .encoding) (a .endian) (a .section .now) (a .offset) (a .base-address) (a .debug-addr .now) (a .debug-addr-base)) (record { section = λ i. omega (arith, c .before .before .before .before .before .before .before .before .before .before .before .before .shared-slice-known .given i); table = λ i. omega (arith, c .before .before .before .before .before .before .before .before .before .before .before .shared-slice-known2 .given i) }) (omega arith) (c .before .before .before .before .before .before .cover-long .ensures) (c .before .before .before .before .n .given .1)
+canonical-long-put-list-requires t c κs =
+    let a = c .before .before .before .before .before .before .before .before .before .before .before .before .before .args in
+    let g = c .before .before .before .before .before .before .cover-long .ensures in
+    let l = length-take short (paired (a .first-begins .now) (a .first-ends .now)) in
+    list-arrays (firsts short (a .first-begins .now) (a .first-ends .now)) (limit - short) (source (holding (a .locations) (a .split)) (a .encoding) (a .endian) (a .section .now) (a .offset .0) (a .base-address) (a .debug-addr .now) (a .debug-addr-base)) _ _ _ (g .0) (omega (arith, l)) (omega (arith, l, g .1 .0)) (g .1 .1 ∙ sym (g .1 .0)) (c .before .before .before .before .n .given .1)
 
 canonical-long-enum-told : (t : ℕ) → canonical-long-lts.Need-enum-told (
   canonical-long-below t,
@@ -157,7 +165,10 @@ canonical-long-returns-2 : (t : ℕ) → canonical-long-lts.Need-returns-2 (
   put-list-reads.Asked,
   put-list-reads.Learnt,
 ) (canonical-long-at t) canonical-long.Post
-canonical-long-returns-2 t c = let a = c .before .before .before .before .before .before .before .before .before .before .before .before .before .before .before .before .args in list-put (source (holding (a .locations) (a .split)) (a .encoding) (a .endian) (a .section .now) (a .offset) (a .base-address) (a .debug-addr .now) (a .debug-addr-base)) (record { section = λ i. omega (arith, c .before .before .before .before .before .before .before .before .before .before .before .before .before .before .before .shared-slice-known .given i); table = λ i. omega (arith, c .before .before .before .before .before .before .before .before .before .before .before .before .before .before .shared-slice-known2 .given i) }) (omega arith) (c .before .before .before .before .before .before .before .before .before .cover-long .ensures) (c .before .before .before .before .before .before .before .n .given .1) (a .out .now) (c .before .before .put-list .result) (c .before .before .put-list .ensures)
+canonical-long-returns-2 t c =
+    let a = c .before .before .before .before .before .before .before .before .before .before .before .before .before .before .before .before .args in
+    let g = c .before .before .before .before .before .before .before .before .before .cover-long .ensures in
+    list-put (orTooMany (coverageWithin (firsts short (a .first-begins .now) (a .first-ends .now)) (limit - short) (source (holding (a .locations) (a .split)) (a .encoding) (a .endian) (a .section .now) (a .offset .0) (a .base-address) (a .debug-addr .now) (a .debug-addr-base)))) (a .out .now) (c .before .before .put-list .result) (told-all (firsts short (a .first-begins .now) (a .first-ends .now)) (limit - short) (source (holding (a .locations) (a .split)) (a .encoding) (a .endian) (a .section .now) (a .offset .0) (a .base-address) (a .debug-addr .now) (a .debug-addr-base)) _ _ _ (g .0) (c .before .before .before .before .before .before .before .n .given .1)) (c .before .before .put-list .ensures)
 
 canonical-long-returns-3 : (t : ℕ) → canonical-long-lts.Need-returns-3 (
   canonical-long-below t,
@@ -167,7 +178,9 @@ canonical-long-returns-3 : (t : ℕ) → canonical-long-lts.Need-returns-3 (
   put-list-reads.Asked,
   put-list-reads.Learnt,
 ) (canonical-long-at t) canonical-long.Post
-canonical-long-returns-3 t c = let a = c .before .before .before .before .before .before .before .before .before .args in list-refused (source (holding (a .locations) (a .split)) (a .encoding) (a .endian) (a .section .now) (a .offset) (a .base-address) (a .debug-addr .now) (a .debug-addr-base)) (a .out .now) TooManyRanges (full-refused (source (holding (a .locations) (a .split)) (a .encoding) (a .endian) (a .section .now) (a .offset) (a .base-address) (a .debug-addr .now) (a .debug-addr-base)) (c .before .before .cover-long .ensures) (c .enum-told .given .1))
+canonical-long-returns-3 t c =
+    let a = c .before .before .before .before .before .before .before .before .before .args in
+    list-refused (orTooMany (coverageWithin (firsts short (a .first-begins .now) (a .first-ends .now)) (limit - short) (source (holding (a .locations) (a .split)) (a .encoding) (a .endian) (a .section .now) (a .offset .0) (a .base-address) (a .debug-addr .now) (a .debug-addr-base)))) (a .out .now) TooManyRanges (told-full (firsts short (a .first-begins .now) (a .first-ends .now)) (limit - short) (source (holding (a .locations) (a .split)) (a .encoding) (a .endian) (a .section .now) (a .offset .0) (a .base-address) (a .debug-addr .now) (a .debug-addr-base)) _ _ _ (c .before .before .cover-long .ensures .0) (c .enum-told .given .1))
 
 canonical-long-returns-4 : (t : ℕ) → canonical-long-lts.Need-returns-4 (
   canonical-long-below t,
@@ -177,7 +190,9 @@ canonical-long-returns-4 : (t : ℕ) → canonical-long-lts.Need-returns-4 (
   put-list-reads.Asked,
   put-list-reads.Learnt,
 ) (canonical-long-at t) canonical-long.Post
-canonical-long-returns-4 t c = let a = c .before .before .before .before .before .before .before .before .before .before .args in list-refused (source (holding (a .locations) (a .split)) (a .encoding) (a .endian) (a .section .now) (a .offset) (a .base-address) (a .debug-addr .now) (a .debug-addr-base)) (a .out .now) (c .before .error .given .0 .0) (settled-refused (source (holding (a .locations) (a .split)) (a .encoding) (a .endian) (a .section .now) (a .offset) (a .base-address) (a .debug-addr .now) (a .debug-addr-base)) (omega arith) (c .before .before .before .cover-long .ensures) (c .before .error .given .1))
+canonical-long-returns-4 t c =
+    let a = c .before .before .before .before .before .before .before .before .before .before .args in
+    list-refused (orTooMany (coverageWithin (firsts short (a .first-begins .now) (a .first-ends .now)) (limit - short) (source (holding (a .locations) (a .split)) (a .encoding) (a .endian) (a .section .now) (a .offset .0) (a .base-address) (a .debug-addr .now) (a .debug-addr-base)))) (a .out .now) (c .before .error .given .0 .0) (told-refused (firsts short (a .first-begins .now) (a .first-ends .now)) (limit - short) (source (holding (a .locations) (a .split)) (a .encoding) (a .endian) (a .section .now) (a .offset .0) (a .base-address) (a .debug-addr .now) (a .debug-addr-base)) _ _ _ (c .before .before .before .cover-long .ensures .0) (c .before .error .given .0 .0) (c .before .error .given .1))
 
 pub +canonical-long-spec : {M : Type 1} → statement M
 +canonical-long-spec = close μ-canonical-long λ t. canonical-long-lts.spec (

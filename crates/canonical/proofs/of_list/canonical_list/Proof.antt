@@ -1,8 +1,11 @@
--- The ranges gathered in short arrays are the list's coverage, unless these were full. Assumes nothing.
-use Rattle.canonical.proofs.Answers.{list-arrays, list-put, list-refused}
-use Rattle.coverage.proofs.GatherLaws.{settled-refused}
-use Rattle.coverage.specs.Covered.{holding, source}
-use mathlib.Core.Path.{sym}
+-- The ranges gathered in short arrays are the list's coverage; where these were full, with what comes from the walk then. Assumes
+-- nothing.
+use Rattle.canonical.proofs.Answers.{list-arrays, list-put, list-refused, list-written}
+use Rattle.coverage.proofs.GatherLaws.{short-all, short-full, short-refused}
+use Rattle.coverage.specs.Covered.{holding, source, coverageOf}
+use Rattle.coverage.specs.Gathered.{short}
+use mathlib.Core.List.{[]}
+use mathlib.Core.Path.{refl, sym, _∙_}
 use native.Mathlib.Omega.{arith}
 use borrow.Author.Needs.{needs}
 use Rattle.canonical.proofs.of_list.canonical_list.Statement.{statement}
@@ -15,16 +18,19 @@ enum-known-n : tie.Need-enum-known-n
 enum-known-n c = search needs
 
 slice-aggregate-put-list : tie.Need-slice-aggregate-put-list
-slice-aggregate-put-list c = sym ((c .before .before .before .before .cover-short .ensures) .sized .0)
+slice-aggregate-put-list c = sym (c .before .before .before .before .cover-short .ensures .1 .0)
 
 slice-aggregate-put-list-2 : tie.Need-slice-aggregate-put-list-2
-slice-aggregate-put-list-2 c = sym ((c .before .before .before .before .before .cover-short .ensures) .sized .1)
+slice-aggregate-put-list-2 c = sym (c .before .before .before .before .before .cover-short .ensures .1 .1)
 
 put-list-requires : tie.Need-put-list-requires
-put-list-requires c κs = let a = c .before .before .before .before .before .before .before .before .before .before .before .before .args in list-arrays (source (holding (a .locations) (a .split)) (a .encoding) (a .endian) (a .section .now) (a .offset) (a .base-address) (a .debug-addr .now) (a .debug-addr-base)) (record { section = λ i. omega (arith, c .before .before .before .before .before .before .before .before .before .before .before .shared-slice-known .given i); table = λ i. omega (arith, c .before .before .before .before .before .before .before .before .before .before .shared-slice-known2 .given i) }) (omega arith) (c .before .before .before .before .before .before .cover-short .ensures) (c .before .before .before .before .n .given .1)
+put-list-requires c κs =
+    let a = c .before .before .before .before .before .before .before .before .before .before .before .before .args in
+    let g = c .before .before .before .before .before .before .cover-short .ensures in
+    list-arrays [] short (source (holding (a .locations) (a .split)) (a .encoding) (a .endian) (a .section .now) (a .offset .0) (a .base-address) (a .debug-addr .now) (a .debug-addr-base)) _ _ _ (g .0) (omega arith) (omega (arith, g .1 .0)) (g .1 .1 ∙ sym (g .1 .0)) (c .before .before .before .before .n .given .1)
 
-enum-told : tie.Need-enum-told
-enum-told c = search needs
+enum-known-walk : tie.Need-enum-known-walk
+enum-known-walk c = search needs
 
 canonical-long-requires : tie.Need-canonical-long-requires
 canonical-long-requires c κs = search needs
@@ -36,16 +42,27 @@ same-length : tie.Need-same-length
 same-length c = search needs
 
 returns : tie.Need-returns
-returns c = let a = c .before .before .before .before .before .before .before .before .before .before .before .before .before .before .before .args in list-put (source (holding (a .locations) (a .split)) (a .encoding) (a .endian) (a .section .now) (a .offset) (a .base-address) (a .debug-addr .now) (a .debug-addr-base)) (record { section = λ i. omega (arith, c .before .before .before .before .before .before .before .before .before .before .before .before .before .before .shared-slice-known .given i); table = λ i. omega (arith, c .before .before .before .before .before .before .before .before .before .before .before .before .before .shared-slice-known2 .given i) }) (omega arith) (c .before .before .before .before .before .before .before .before .before .cover-short .ensures) (c .before .before .before .before .before .before .before .n .given .1) (a .out .now) (c .before .before .put-list .result) (c .before .before .put-list .ensures)
+returns c =
+    let a = c .before .before .before .before .before .before .before .before .before .before .before .before .before .before .before .args in
+    let g = c .before .before .before .before .before .before .before .before .before .cover-short .ensures in
+    list-put (coverageOf (source (holding (a .locations) (a .split)) (a .encoding) (a .endian) (a .section .now) (a .offset .0) (a .base-address) (a .debug-addr .now) (a .debug-addr-base))) (a .out .now) (c .before .before .put-list .result) (short-all (source (holding (a .locations) (a .split)) (a .encoding) (a .endian) (a .section .now) (a .offset .0) (a .base-address) (a .debug-addr .now) (a .debug-addr-base)) (record { section = λ i. omega (arith, c .before .before .before .before .before .before .before .before .before .before .before .before .before .before .shared-slice-known .given i); table = λ i. omega (arith, c .before .before .before .before .before .before .before .before .before .before .before .before .before .shared-slice-known2 .given i) }) _ _ _ (g .0) (c .before .before .before .before .before .before .before .n .given .1)) (c .before .before .put-list .ensures)
+    ∙ list-written (source (holding (a .locations) (a .split)) (a .encoding) (a .endian) (a .section .now) (a .offset .0) (a .base-address) (a .debug-addr .now) (a .debug-addr-base)) (a .out .now) refl
 
 same-length-2 : tie.Need-same-length-2
 same-length-2 c = search needs
 
 returns-2 : tie.Need-returns-2
-returns-2 c = search needs
+returns-2 c =
+    let a = c .before .before .before .before .before .before .before .before .before .before .before .before .before .before .before .args in
+    let g = c .before .before .before .before .before .before .before .before .before .cover-short .ensures in
+    c .before .before .canonical-long .ensures
+    ∙ list-written (source (holding (a .locations) (a .split)) (a .encoding) (a .endian) (a .section .now) (a .offset .0) (a .base-address) (a .debug-addr .now) (a .debug-addr-base)) (a .out .now) (short-full (source (holding (a .locations) (a .split)) (a .encoding) (a .endian) (a .section .now) (a .offset .0) (a .base-address) (a .debug-addr .now) (a .debug-addr-base)) (record { section = λ i. omega (arith, c .before .before .before .before .before .before .before .before .before .before .before .before .before .before .shared-slice-known .given i); table = λ i. omega (arith, c .before .before .before .before .before .before .before .before .before .before .before .before .before .shared-slice-known2 .given i) }) _ _ _ (g .0) (g .1 .0) (c .before .before .before .before .before .before .before .walk .given .1))
 
 returns-3 : tie.Need-returns-3
-returns-3 c = let a = c .before .before .before .before .before .before .before .before .before .args in list-refused (source (holding (a .locations) (a .split)) (a .encoding) (a .endian) (a .section .now) (a .offset) (a .base-address) (a .debug-addr .now) (a .debug-addr-base)) (a .out .now) (c .before .e .given .0 .0) (settled-refused (source (holding (a .locations) (a .split)) (a .encoding) (a .endian) (a .section .now) (a .offset) (a .base-address) (a .debug-addr .now) (a .debug-addr-base)) (omega arith) (c .before .before .before .cover-short .ensures) (c .before .e .given .1))
+returns-3 c =
+    let a = c .before .before .before .before .before .before .before .before .before .args in
+    list-refused (coverageOf (source (holding (a .locations) (a .split)) (a .encoding) (a .endian) (a .section .now) (a .offset .0) (a .base-address) (a .debug-addr .now) (a .debug-addr-base))) (a .out .now) (c .before .e .given .0 .0) (short-refused (source (holding (a .locations) (a .split)) (a .encoding) (a .endian) (a .section .now) (a .offset .0) (a .base-address) (a .debug-addr .now) (a .debug-addr-base)) (record { section = λ i. omega (arith, c .before .before .before .before .before .before .before .before .shared-slice-known .given i); table = λ i. omega (arith, c .before .before .before .before .before .before .before .shared-slice-known2 .given i) }) _ _ _ (c .before .before .before .cover-short .ensures .0) (c .before .e .given .0 .0) (c .before .e .given .1))
+    ∙ list-written (source (holding (a .locations) (a .split)) (a .encoding) (a .endian) (a .section .now) (a .offset .0) (a .base-address) (a .debug-addr .now) (a .debug-addr-base)) (a .out .now) refl
 
 pub canonical-list-spec : {M : Type 1} → statement M
 canonical-list-spec =
@@ -56,7 +73,7 @@ canonical-list-spec =
     slice-aggregate-put-list
     slice-aggregate-put-list-2
     put-list-requires
-    enum-told
+    enum-known-walk
     canonical-long-requires
     enum-known-e
     same-length

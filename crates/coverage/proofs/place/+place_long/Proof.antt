@@ -1,12 +1,16 @@
--- What was gathered in arrays as long as a coverage's is the coverage; the measure is how often the call calls itself. Assumes
--- nothing.
-use Rattle.coverage.proofs.GatherLaws.{turns, settled-got, settled-refused, full-refused, place-got, place-refused}
+-- What was gathered in arrays as long as a coverage's is told as it is, with 10 for no room; the measure is how often the call
+-- calls itself. Assumes nothing.
+use Rattle.coverage.proofs.GatherLaws.{turns, told-all, told-few, told-full, told-refused, place-got, place-refused}
 use Rattle.coverage.specs.Covered.{holding, source}
+use Rattle.coverage.specs.Ranges.{limit}
+use Rattle.coverage.specs.Kept.{paired, firsts}
+use Rattle.coverage.specs.Gathered.{short}
+use lib.ListN.{length-take}
 use Rattle.bytes.specs.declared.error.Error.the-variants.{TooManyRanges}
 use borrow.Author.Needs.{needs}
 use mathlib.Core.Path.{sym, ap}
 use native.Mathlib.Omega.{arith}
-use Prim.Native.Nat.{ℕ, _<_}
+use Prim.Native.Nat.{ℕ, _-_, _<_}
 use borrow.Fn.Kinds.{In}
 use borrow.Fn.PlainCycle.{Measures, is, falls, and}
 use Rattle.coverage.proofs.place.place_long.Reads as place-long
@@ -17,16 +21,16 @@ use Rattle.coverage.proofs.place.place.Reads as place-reads
 use Rattle.coverage.proofs.place.+place_long.{statement}
 use Rattle.coverage.proofs.place.+place_long.Tie.{close}
 
-abbrev μ-place-long : Measures 4 place-long-kinds.ps ℕ
+abbrev μ-place-long : Measures 6 place-long-kinds.ps ℕ
 μ-place-long κs a = turns (a .0)
 
-abbrev place-long-at : ℕ → In 4 place-long-kinds.ps
+abbrev place-long-at : ℕ → In 6 place-long-kinds.ps
 place-long-at t =
-    and 4 place-long-kinds.ps (is 4 place-long-kinds.ps μ-place-long t) place-long.Pre
+    and 6 place-long-kinds.ps (is 6 place-long-kinds.ps μ-place-long t) place-long.Pre
 
-abbrev place-long-below : ℕ → In 4 place-long-kinds.ps
+abbrev place-long-below : ℕ → In 6 place-long-kinds.ps
 place-long-below t =
-    and 4 place-long-kinds.ps (falls 4 place-long-kinds.ps _<_ μ-place-long t) place-long.Pre
+    and 6 place-long-kinds.ps (falls 6 place-long-kinds.ps _<_ μ-place-long t) place-long.Pre
 
 place-long-place-long-requires : (t : ℕ) → place-long-lts.Need-place-long-requires (
   place-long-below t,
@@ -76,7 +80,7 @@ place-long-slice-aggregate-place : (t : ℕ) → place-long-lts.Need-slice-aggre
   place-reads.Asked,
   place-reads.Learnt,
 ) (place-long-at t) place-long.Post
-place-long-slice-aggregate-place t c = sym ((c .before .before .before .before .cover-long .ensures) .sized .0)
+place-long-slice-aggregate-place t c = sym (c .before .before .before .before .cover-long .ensures .1 .0)
 
 place-long-slice-aggregate-place-2 : (t : ℕ) → place-long-lts.Need-slice-aggregate-place-2 (
   place-long-below t,
@@ -86,7 +90,7 @@ place-long-slice-aggregate-place-2 : (t : ℕ) → place-long-lts.Need-slice-agg
   place-reads.Asked,
   place-reads.Learnt,
 ) (place-long-at t) place-long.Post
-place-long-slice-aggregate-place-2 t c = sym ((c .before .before .before .before .before .cover-long .ensures) .sized .1)
+place-long-slice-aggregate-place-2 t c = sym (c .before .before .before .before .before .cover-long .ensures .1 .1)
 
 place-long-place-requires : (t : ℕ) → place-long-lts.Need-place-requires (
   place-long-below t,
@@ -98,9 +102,10 @@ place-long-place-requires : (t : ℕ) → place-long-lts.Need-place-requires (
 ) (place-long-at t) place-long.Post
 place-long-place-requires t c κs =
     let a = c .before .before .before .before .before .before .before .before .before .before .before .before .before .args in
-    let g = (c .before .before .before .before .before .before .before .cover-long .ensures) in
-    let n = settled-got (source (holding (a .locations) (a .split)) (a .encoding) (a .endian) (a .section .now) (a .offset) (a .base-address) (a .debug-addr .now) (a .debug-addr-base)) (omega arith) g (c .before .before .before .before .before .n .given .1) .1 in
-    ((omega (arith, g .sized .0), omega (arith, g .sized .1)), n)
+    let g = c .before .before .before .before .before .before .before .cover-long .ensures in
+    let f = told-few (firsts short (a .first-begins .now) (a .first-ends .now)) (limit - short) (source (holding (a .locations) (a .split)) (a .encoding) (a .endian) (a .section .now) (a .offset .0) (a .base-address) (a .debug-addr .now) (a .debug-addr-base)) _ _ _ (g .0) (c .before .before .before .before .before .n .given .1) in
+    let l = length-take short (paired (a .first-begins .now) (a .first-ends .now)) in
+    ((omega (arith, f, l, g .1 .0), omega (arith, f, l, g .1 .1)), omega (arith, f, l))
 
 place-long-enum-told : (t : ℕ) → place-long-lts.Need-enum-told (
   place-long-below t,
@@ -132,9 +137,11 @@ place-long-returns-2 : (t : ℕ) → place-long-lts.Need-returns-2 (
 ) (place-long-at t) place-long.Post
 place-long-returns-2 t c =
     let a = c .before .before .before .before .before .before .before .before .before .before .before .before .before .before .args in
-    let g = (c .before .before .before .before .before .before .before .before .cover-long .ensures) in
-    let s = settled-got (source (holding (a .locations) (a .split)) (a .encoding) (a .endian) (a .section .now) (a .offset) (a .base-address) (a .debug-addr .now) (a .debug-addr-base)) (omega arith) g (c .before .before .before .before .before .before .n .given .1) in
-    place-got _ _ _ _ (s .1) (g .sized) (c .place .ensures .0) (c .place .ensures .1) _ _ _ (s .0)
+    let g = c .before .before .before .before .before .before .before .before .cover-long .ensures in
+    let q = c .before .before .before .before .before .before .n .given .1 in
+    let f = told-few (firsts short (a .first-begins .now) (a .first-ends .now)) (limit - short) (source (holding (a .locations) (a .split)) (a .encoding) (a .endian) (a .section .now) (a .offset .0) (a .base-address) (a .debug-addr .now) (a .debug-addr-base)) _ _ _ (g .0) q in
+    let l = length-take short (paired (a .first-begins .now) (a .first-ends .now)) in
+    place-got _ _ _ limit (omega (arith, f, l)) (g .1) (c .place .ensures .0) (c .place .ensures .1) _ _ _ (told-all (firsts short (a .first-begins .now) (a .first-ends .now)) (limit - short) (source (holding (a .locations) (a .split)) (a .encoding) (a .endian) (a .section .now) (a .offset .0) (a .base-address) (a .debug-addr .now) (a .debug-addr-base)) _ _ _ (g .0) q)
 
 place-long-returns-3 : (t : ℕ) → place-long-lts.Need-returns-3 (
   place-long-below t,
@@ -144,7 +151,9 @@ place-long-returns-3 : (t : ℕ) → place-long-lts.Need-returns-3 (
   place-reads.Asked,
   place-reads.Learnt,
 ) (place-long-at t) place-long.Post
-place-long-returns-3 t c = let a = c .before .before .before .before .before .before .before .before .args in place-refused _ _ _ TooManyRanges (full-refused (source (holding (a .locations) (a .split)) (a .encoding) (a .endian) (a .section .now) (a .offset) (a .base-address) (a .debug-addr .now) (a .debug-addr-base)) (c .before .before .cover-long .ensures) (c .enum-told .given .1))
+place-long-returns-3 t c =
+    let a = c .before .before .before .before .before .before .before .before .args in
+    place-refused _ _ _ TooManyRanges (told-full (firsts short (a .first-begins .now) (a .first-ends .now)) (limit - short) (source (holding (a .locations) (a .split)) (a .encoding) (a .endian) (a .section .now) (a .offset .0) (a .base-address) (a .debug-addr .now) (a .debug-addr-base)) _ _ _ (c .before .before .cover-long .ensures .0) (c .enum-told .given .1))
 
 place-long-returns-4 : (t : ℕ) → place-long-lts.Need-returns-4 (
   place-long-below t,
@@ -154,7 +163,9 @@ place-long-returns-4 : (t : ℕ) → place-long-lts.Need-returns-4 (
   place-reads.Asked,
   place-reads.Learnt,
 ) (place-long-at t) place-long.Post
-place-long-returns-4 t c = let a = c .before .before .before .before .before .before .before .before .before .args in place-refused _ _ _ (c .before .e .given .0 .0) (settled-refused (source (holding (a .locations) (a .split)) (a .encoding) (a .endian) (a .section .now) (a .offset) (a .base-address) (a .debug-addr .now) (a .debug-addr-base)) (omega arith) (c .before .before .before .cover-long .ensures) (c .before .e .given .1))
+place-long-returns-4 t c =
+    let a = c .before .before .before .before .before .before .before .before .before .args in
+    place-refused _ _ _ (c .before .e .given .0 .0) (told-refused (firsts short (a .first-begins .now) (a .first-ends .now)) (limit - short) (source (holding (a .locations) (a .split)) (a .encoding) (a .endian) (a .section .now) (a .offset .0) (a .base-address) (a .debug-addr .now) (a .debug-addr-base)) _ _ _ (c .before .before .before .cover-long .ensures .0) (c .before .e .given .0 .0) (c .before .e .given .1))
 
 pub +place-long-spec : {M : Type 1} → statement M
 +place-long-spec = close μ-place-long λ t. place-long-lts.spec (
