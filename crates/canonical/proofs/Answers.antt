@@ -12,7 +12,7 @@ use Rattle.bytes.specs.declared.error.Error.{Error}
 use Rattle.bytes.specs.declared.error.Error.the-variants.{BadSheet}
 use Rattle.coverage.specs.Ranges.{Range, limit}
 use Rattle.coverage.specs.Covered.{Source, coverageOf}
-use Rattle.coverage.specs.Kept.{firsts, lawfulSheet}
+use Rattle.coverage.specs.Kept.{firsts, isLawful}
 use Rattle.coverage.specs.Gathered.{coverageWithin, toldGathered}
 use Rattle.canonical.specs.Canonical.{canonicalBytes, canonicalOf, canonicalKept}
 use Rattle.coverage.specs.Output.{output, written}
@@ -36,18 +36,18 @@ put-written : (bs l : List ℕ) {m : List ℕ} (r : Wrote) → Put r bs l m → 
 put-written bs l (wrote.Bytes n) p = all-written bs l (p .0) (p .1) (p .2)
 put-written bs l (wrote.Refused e) p = rw (p .0, p .2) (sym (written-short bs l (p .1)))
 
-pub arrays : (c : Coverage) → lawfulSheet c ≡ true
+pub arrays : (c : Coverage) → isLawful c ≡ true
     → length (c .begins) ≡ limit → length (c .ends) ≡ limit → Arrays (c .n) (c .begins) (c .ends)
 arrays c law b e =
     let f = lawful-few c law in
     record { few = f; room = omega arith; sized = (refl, e ∙ sym b); apart = lawful-apart c law }
 
 module _ (c : Coverage) (l : List ℕ) where
-  pub canonical-refused : lawfulSheet c ≡ false → output (refusal BadSheet) l ≡ written (canonicalKept c) l
+  pub canonical-refused : isLawful c ≡ false → output (refusal BadSheet) l ≡ written (canonicalKept c) l
   unfolding canonicalKept
   canonical-refused e = rw e (sym (written-refused (number BadSheet) (values BadSheet) l))
 
-  pub canonical-put : {m : List ℕ} (r : Wrote) → lawfulSheet c ≡ true → Put r (canonicalBytes (firsts (c .n) (c .begins) (c .ends))) l m
+  pub canonical-put : {m : List ℕ} (r : Wrote) → isLawful c ≡ true → Put r (canonicalBytes (firsts (c .n) (c .begins) (c .ends))) l m
       → output (toldWrote r) m ≡ written (canonicalKept c) l
   canonical-put r law p = rw (kept-bytes c law, ranges-are c) (put-written (canonicalBytes (firsts (c .n) (c .begins) (c .ends))) l r p)
 

@@ -15,7 +15,7 @@ use Rattle.bytes.specs.declared.common.Format.{Format}
 use Rattle.bytes.specs.declared.common.Format.the-variants.{Dwarf32}
 use Rattle.coverage.specs.Ranges.{Range, Covers, limit, runs}
 use Rattle.coverage.specs.Covered.{Source, yieldedOf, coverageOf, CoveredBy, Bytes, readBack}
-use Rattle.coverage.specs.Kept.{rangesOf, lawfulSheet}
+use Rattle.coverage.specs.Kept.{rangesOf, isLawful}
 use Rattle.canonical.specs.Canonical.{canonicalBytes, canonicalOf, canonicalKept}
 use Rattle.coverage.specs.declared.Coverage.{Coverage}
 use Rattle.coverage.proofs.Small.{Small}
@@ -87,13 +87,13 @@ unfolding canonicalOf
 canonical-ranges x e = mapped-gives canonicalBytes (coverageOf x) e
 
 module _ (c : Coverage) where
-  pub kept-bytes : lawfulSheet c ≡ true → canonicalKept c ≡ gives (canonicalBytes (rangesOf c))
+  pub kept-bytes : isLawful c ≡ true → canonicalKept c ≡ gives (canonicalBytes (rangesOf c))
   unfolding canonicalKept
   kept-bytes h = simp h
 
-  pub kept-ranges : {bs : List ℕ} → canonicalKept c ≡ gives bs → (lawfulSheet c ≡ true) × (canonicalBytes (rangesOf c) ≡ bs)
+  pub kept-ranges : {bs : List ℕ} → canonicalKept c ≡ gives bs → (isLawful c ≡ true) × (canonicalBytes (rangesOf c) ≡ bs)
   unfolding canonicalKept
-  kept-ranges {bs} e = chosen (lawfulSheet c) (canonicalBytes (rangesOf c)) _ _ e
+  kept-ranges {bs} e = chosen (isLawful c) (canonicalBytes (rangesOf c)) _ _ e
     where
       chosen : (t : Bool) (l : List ℕ) (n : ℕ) (vs : List ℕ) → pick t (gives l) (refused n vs) ≡ gives bs → (t ≡ true) × (l ≡ bs)
       chosen true l n vs e = (refl, cc)

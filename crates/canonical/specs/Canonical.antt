@@ -6,7 +6,7 @@ use Rattle.bytes.specs.Error.{refusal}
 use Rattle.bytes.specs.declared.error.Error.the-variants.{BadSheet}
 use Rattle.coverage.specs.Ranges.{Range}
 use Rattle.coverage.specs.Covered.{Source, coverageOf}
-use Rattle.coverage.specs.Kept.{rangesOf, lawfulSheet}
+use Rattle.coverage.specs.Kept.{rangesOf, isLawful}
 use Rattle.bytes.specs.Written.{littleBytes, unsignedBytes}
 use Rattle.coverage.specs.declared.Coverage.{Coverage}
 
@@ -25,4 +25,4 @@ canonicalOf x = andThen (coverageOf x) (λ rs. gives (canonicalBytes rs))
 
 -- the canonical list of a coverage handed in; one that makes no lawful sheet is refused (docs/SCOPE.md, "Coverage")
 unfoldable pub canonicalKept : Coverage → Result (List ℕ)
-canonicalKept c = pick (lawfulSheet c) (gives (canonicalBytes (rangesOf c))) (refusal BadSheet)
+canonicalKept c = pick (isLawful c) (gives (canonicalBytes (rangesOf c))) (refusal BadSheet)

@@ -23,7 +23,7 @@ use Rattle.entries.specs.declared.RawLocListEntry.the-variants as loc
 use Rattle.lists.specs.Open.{walkAt, opened}
 use Rattle.lists.specs.Walk.{Trace, item, over, next, nextRaw, convertRaw, nextRange, nextRawRange, convertedRange, nextLocation, nextRawLocation, convertedLocation, handed, comes}
 use Rattle.coverage.specs.Covered.{source, rangeList, yieldedIn, yieldedOf, coverageOf}
-use Rattle.coverage.specs.Kept.{rangesOf, padded, keptAs, lawfulFrom, lawfulSheet}
+use Rattle.coverage.specs.Kept.{rangesOf, padded, keptAs, lawfulFrom, isLawful}
 use Rattle.coverage.specs.Ranges.{limit}
 use Rattle.coverage.specs.Told.{made}
 use Rattle.sheets.specs.Sheet.{sheetKept}
@@ -167,9 +167,9 @@ abbrev empty : Coverage
 empty = record { n = 1; begins = 0x10 ∷ []; ends = 0x10 ∷ [] }
 
 canonical-unlawful : canonicalKept empty ≡ refused 12 []
-unfolding canonicalKept lawfulSheet rangesOf lawfulFrom
+unfolding canonicalKept isLawful rangesOf lawfulFrom
 canonical-unlawful = refl
 
 sheet-unlawful : sheetKept empty ≡ refused 12 []
-unfolding sheetKept lawfulSheet rangesOf lawfulFrom
+unfolding sheetKept isLawful rangesOf lawfulFrom
 sheet-unlawful = refl

@@ -10,7 +10,7 @@ use Rattle.lists.specs.Convert.{tableAt}
 use Rattle.lists.specs.Walk.{trace}
 use Rattle.lists.specs.declared.Walk.{Walk}
 use Rattle.coverage.specs.Ranges.{Range, limit, runs}
-use Rattle.coverage.specs.Covered.{yieldedIn, Source, listed, traceOf, yieldedOf, coverageOf}
+use Rattle.coverage.specs.Covered.{yieldedIn, Source, listing, traceOf, yieldedOf, coverageOf}
 
 -- the ranges gathered so far, and those still to come
 abbrev pub after : List Range → Result (List Range) → Result (List Range)
@@ -23,7 +23,7 @@ after-none (refused n vs) = refl
 -- the coverage of a list from its opening on
 module _ (x : Source) where
   pub trace-is : (w : Walk)
-      → traceOf x w ≡ trace (listed (x .holds) (x .encoding) (x .endian) (x .section)) (tableAt (x .endian) (x .encoding) (x .«table_base») (x .table)) (x .encoding .«address_size») (length (x .section)) w
+      → traceOf x w ≡ trace (listing (x .holds) (x .encoding) (x .endian) (x .section)) (tableAt (x .endian) (x .encoding) (x .«table_base») (x .table)) (x .encoding .«address_size») (length (x .section)) w
   unfolding traceOf
   trace-is w = refl
 

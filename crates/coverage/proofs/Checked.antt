@@ -9,7 +9,7 @@ use lib.Dec.{T}
 use lib.ListN.{length, drop, getD}
 use Rattle.bytes.specs.Address.{minTombstone}
 use Rattle.coverage.specs.Ranges.{Range, Apart, limit}
-use Rattle.coverage.specs.Kept.{firsts, rangesOf, lawfulFrom, lawfulSheet}
+use Rattle.coverage.specs.Kept.{firsts, rangesOf, lawfulFrom, isLawful}
 use Rattle.coverage.specs.declared.Coverage.{Coverage}
 use Rattle.bytes.proofs.Order.{lt-or-le}
 use Rattle.coverage.proofs.KeptLaws.{next-range, no-range, lawful-first, not-above, not-proper, not-below, lawful-from, sheet-many, sheet-test}
@@ -72,7 +72,7 @@ module _ {bs es : List ℕ} {n i last : ℕ} (t : Checked bs es n i last) where
   checked-end h = sym (t .same ∙ ap (lawfulFrom (t .lo)) (no-range bs es n (t .few) (t .lb) (t .le) i h))
 
 -- the count and the ranges of a coverage that makes a lawful sheet
-module _ (c : Coverage) (law : lawfulSheet c ≡ true) where
+module _ (c : Coverage) (law : isLawful c ≡ true) where
   pub lawful-few : c .n ≤ limit
   lawful-few =
       ⊎-elim (λ h. let e = sheet-many c h in let z : _≡_ {A = Bool} false true = cc in absurd (subst T (sym z) tt)) (λ h. h) (lt-or-le limit (c .n))

@@ -10,7 +10,7 @@ use native.Mathlib.Omega.{arith}
 use lib.ListN.{length, take, getD, set, replicate, length-take, length-append, length-set, length-replicate}
 use lib.Seq.{take-suc, take-suc-set}
 use lib.Dec.{leb}
-use borrow.Author.Tests.{le-leb, leb-true, lt-ltb, le-ltb}
+use borrow.Author.Tests.{lt-ltb, le-ltb}
 use Rattle.bytes.specs.Read.{Result, gives, refused, pick}
 use Rattle.bytes.specs.Error.{number, values, refusal}
 use Rattle.bytes.specs.Reader.{isSize}
@@ -18,23 +18,24 @@ use Rattle.bytes.specs.declared.common.DebugAddrBase.{DebugAddrBase}
 use Rattle.bytes.specs.declared.common.Encoding.{Encoding}
 use Rattle.bytes.specs.declared.endianity.RunTimeEndian.{RunTimeEndian}
 use Rattle.bytes.specs.declared.error.Error.{Error}
-use Rattle.bytes.specs.declared.error.Error.the-variants.{UnexpectedEof, TooManyRanges}
+use Rattle.bytes.specs.declared.error.Error.the-variants.{TooManyRanges}
 use Rattle.bytes.proofs.Order.{lt-or-le}
-use Rattle.lists.specs.Open.{walkAt, opened}
+use Rattle.lists.specs.Open.{opened}
 use Rattle.lists.specs.Convert.{tableAt}
 use Rattle.lists.specs.Walk as both
 use Rattle.lists.specs.Walk.{Item, item, Trace, over, trace, first, handed}
 use Rattle.lists.specs.Walks.{Hands}
 use Rattle.lists.specs.declared.Walk.{Walk}
-use Rattle.lists.proofs.OpenLaws.{opened-size}
+use Rattle.lists.proofs.ConvertLaws.{opened-list}
+use Rattle.lists.proofs.OpenLaws.{opened-size, opened-inside}
 use Rattle.lists.proofs.WalkLaws.{Moved, next-first}
 use Rattle.lists.proofs.Theorems.{hands-out}
 use Rattle.lists.proofs.Past.{listed-past}
 use Rattle.lists.proofs.CallLaws.{next-ahead}
 use Rattle.coverage.specs.Ranges.{Range, Covers, Apart, limit, runs}
-use Rattle.coverage.specs.Covered.{yieldedIn, Holds, rangeList, locationList, holding, Source, source, listed, traceOf, coverageOf, Bytes}
+use Rattle.coverage.specs.Covered.{yieldedIn, Holds, rangeList, locationList, holding, Source, source, listing, traceOf, coverageOf, Bytes}
 use Rattle.coverage.specs.Kept.{paired, firsts, begins, ends, padded, keptAs}
-use Rattle.coverage.specs.Gathered.{short, Stored, Within, all, full, inFront, within, nonempty, covering, coverageWithin, restOf, orTooMany, toldGathered}
+use Rattle.coverage.specs.Gathered.{short, Stored, Within, all, full, inFront, within, nonempty, covering, coverageWithin, listFrom, orTooMany, toldGathered}
 use Rattle.coverage.specs.Sorted.{Sized, AtLeast, Copied, ToRuns}
 use Rattle.coverage.specs.Told.{made, Placed, placed, placing, byCount}
 use Rattle.coverage.specs.declared.collect.Gathered.{Gathered}
@@ -276,12 +277,12 @@ module _ (done : List Range) (room : ℕ) (x : Source) where
       (λ w e. covering-runs (inFront done (within room w (traceOf x w))))
 
 -- the same of a list by two tests
-module _ (done : List Range) (room : ℕ) (split : Bool) (p : Encoding) (endian : RunTimeEndian) (s : List ℕ) (offset base : ℕ) (table : List ℕ) (tableBase : DebugAddrBase) {w : Walk} (o : opened p s offset base ≡ gives w) where
+module _ (done : List Range) (room : ℕ) (split : Bool) (encoding : Encoding) (endian : RunTimeEndian) (s : List ℕ) (offset base : ℕ) (table : List ℕ) (tableBase : DebugAddrBase) {w : Walk} (o : opened encoding s offset base ≡ gives w) where
   abbrev walkedBy : Bool → Result Within
-  walkedBy l = inFront done (within room w (trace (both.listed l split p endian s) (tableAt endian p tableBase table) (p .«address_size») (length s) w))
+  walkedBy l = inFront done (within room w (trace (both.listed l split encoding endian s) (tableAt endian encoding tableBase table) (encoding .«address_size») (length s) w))
 
   abbrev sourceBy : Bool → Source
-  sourceBy l = source (holding l split) p endian s offset base table tableBase
+  sourceBy l = source (holding l split) encoding endian s offset base table tableBase
 
   walked-coverage : (l : Bool) → coverageWithin done room (sourceBy l) ≡ mapped covering (walkedBy l)
   unfolding traceOf
@@ -292,7 +293,7 @@ module _ (done : List Range) (room : ℕ) (split : Bool) (p : Encoding) (endian 
     pub gathered-few : {n : ℕ} → k ≡ gathered.All n → n ≤ length done + room
     gathered-few {n} q =
         let e : walkedBy l ≡ gives (all n (firsts n bs es)) = sym g ∙ ap (λ (k : Gathered). toldGathered k bs es) q in
-        subst (Given (Fits (length done + room))) e (gathered-fits done room w (trace (both.listed l split p endian s) (tableAt endian p tableBase table) (p .«address_size») (length s) w)) .0
+        subst (Given (Fits (length done + room))) e (gathered-fits done room w (trace (both.listed l split encoding endian s) (tableAt endian encoding tableBase table) (encoding .«address_size») (length s) w)) .0
 
     pub cover-got : {n r : ℕ} (xs ys : List ℕ) → k ≡ gathered.All n → AtLeast n bs es → ToRuns (firsts n bs es) (length bs) xs ys r → toldGathered (gathered.All r) xs ys ≡ coverageWithin done room (sourceBy l)
     cover-got {n} {r} xs ys q h t =
@@ -313,17 +314,17 @@ module _ (done : List Range) (room : ℕ) (split : Bool) (p : Encoding) (endian 
 
 -- ---- with more room
 module _ (x : Source) where
-  walk-past : (at : ℕ) → at < length (x .section) → Moved at (length (x .section)) (listed (x .holds) (x .encoding) (x .endian) (x .section) .read at)
+  walk-past : (at : ℕ) → at < length (x .section) → Moved at (length (x .section)) (listing (x .holds) (x .encoding) (x .endian) (x .section) .read at)
   walk-past = past-of (x .holds)
     where
-      past-of : (h : Holds) (at : ℕ) → at < length (x .section) → Moved at (length (x .section)) (listed h (x .encoding) (x .endian) (x .section) .read at)
+      past-of : (h : Holds) (at : ℕ) → at < length (x .section) → Moved at (length (x .section)) (listing h (x .encoding) (x .endian) (x .section) .read at)
       past-of rangeList = listed-past false false (x .encoding) (x .endian) (x .section)
       past-of (locationList split) = listed-past true split (x .encoding) (x .endian) (x .section)
 
-  module _ (v : Walk) {r : Result (Item (listed (x .holds) (x .encoding) (x .endian) (x .section) .Carried))} {w : Walk} {u : Trace (listed (x .holds) (x .encoding) (x .endian) (x .section) .Carried)} (e : traceOf x v ≡ handed r w u) where
-    abbrev Handed : Trace (listed (x .holds) (x .encoding) (x .endian) (x .section) .Carried) → Type 0
+  module _ (v : Walk) {r : Result (Item (listing (x .holds) (x .encoding) (x .endian) (x .section) .Carried))} {w : Walk} {u : Trace (listing (x .holds) (x .encoding) (x .endian) (x .section) .Carried)} (e : traceOf x v ≡ handed r w u) where
+    abbrev Handed : Trace (listing (x .holds) (x .encoding) (x .endian) (x .section) .Carried) → Type 0
     Handed t =
-        Hands (listed (x .holds) (x .encoding) (x .endian) (x .section)) (tableAt (x .endian) (x .encoding) (x .«table_base») (x .table))
+        Hands (listing (x .holds) (x .encoding) (x .endian) (x .section)) (tableAt (x .endian) (x .encoding) (x .«table_base») (x .table))
         (x .encoding .«address_size») (length (x .section)) t
 
     -- a walk handed back does what the list does from there on
@@ -331,7 +332,7 @@ module _ (x : Source) where
     unfolding traceOf
     trace-after =
         subst Handed e
-        (hands-out (listed (x .holds) (x .encoding) (x .endian) (x .section)) (tableAt (x .endian) (x .encoding) (x .«table_base») (x .table))
+        (hands-out (listing (x .holds) (x .encoding) (x .endian) (x .section)) (tableAt (x .endian) (x .encoding) (x .«table_base») (x .table))
         (x .encoding .«address_size») (length (x .section)) walk-past v)
 
   -- gathered with some room, and where it is full gone on with more, is gathered with both
@@ -349,7 +350,7 @@ module _ (x : Source) where
       one (refused n vs) = refl
   onward-one m b e (refused n vs) = refl
 
-  going-on : (room m : ℕ) (v : Walk) (t : Trace (listed (x .holds) (x .encoding) (x .endian) (x .section) .Carried)) → traceOf x v ≡ t → yieldedIn (room + m) t ≡ onward m (within room v t)
+  going-on : (room m : ℕ) (v : Walk) (t : Trace (listing (x .holds) (x .encoding) (x .endian) (x .section) .Carried)) → traceOf x v ≡ t → yieldedIn (room + m) t ≡ onward m (within room v t)
   unfolding within yieldedIn
   going-on room m v (over w) q = refl
   going-on room m v (handed (refused n vs) w t) q = refl
@@ -372,12 +373,12 @@ module _ (x : Source) where
   in-front-stands done (refused n vs) h = tt
 
   module _ (h : isSize (x .encoding .«address_size») ≡ true) where
-    walk-ahead : (v : Walk) {i : Item (listed (x .holds) (x .encoding) (x .endian) (x .section) .Carried)} {w : Walk} {u : Trace (listed (x .holds) (x .encoding) (x .endian) (x .section) .Carried)}
+    walk-ahead : (v : Walk) {i : Item (listing (x .holds) (x .encoding) (x .endian) (x .section) .Carried)} {w : Walk} {u : Trace (listing (x .holds) (x .encoding) (x .endian) (x .section) .Carried)}
         → traceOf x v ≡ handed (gives i) w u → w .at ≤ length (x .section)
     unfolding traceOf
     walk-ahead v e = next-ahead _ _ _ _ walk-past v h (next-first _ _ _ _ v h ∙ ap first e) .1
 
-    stands : (room : ℕ) (v : Walk) (t : Trace (listed (x .holds) (x .encoding) (x .endian) (x .section) .Carried)) → traceOf x v ≡ t → v .at ≤ length (x .section) → Given Stands (within room v t)
+    stands : (room : ℕ) (v : Walk) (t : Trace (listing (x .holds) (x .encoding) (x .endian) (x .section) .Carried)) → traceOf x v ≡ t → v .at ≤ length (x .section) → Given Stands (within room v t)
     unfolding within
     stands room v (over w) q k = tt
     stands room v (handed (refused n vs) w t) q k = tt
@@ -385,20 +386,7 @@ module _ (x : Source) where
     stands (suc room) v (handed (gives (item b e d)) w t) q k = in-front-stands ((b, e) ∷ []) (within room w t) (stands room w t (trace-after v q) (walk-ahead v q))
 
     opened-rest : (w : Walk) → w .at ≤ length (x .section) → opened (x .encoding) (x .section) (w .at) (w .«base_address») ≡ gives w
-    unfolding opened
-    opened-rest w k = rw (h, le-leb (w .at) (length (x .section)) k)
-
-opened-inside : (p : Encoding) (s : List ℕ) (offset base : ℕ) {w : Walk} → opened p s offset base ≡ gives w → w .at ≤ length s
-unfolding opened
-opened-inside p s offset base {w} q = chosen (isSize (p .«address_size»)) _ _ q
-  where
-    inner : (t : Bool) → leb offset (length s) ≡ t → (n : ℕ) (vs : List ℕ) → pick t (gives (walkAt offset base)) (refused n vs) ≡ gives w → w .at ≤ length s
-    inner true e n vs f = let z : offset ≡ w .at = cc in omega (arith, leb-true offset (length s) e)
-    inner false e n vs f = let z : _≡_ {A = ℕ} 0 1 = cc in absurd (omega arith)
-
-    chosen : (t : Bool) (n : ℕ) (vs : List ℕ) → pick t (pick (leb offset (length s)) (gives (walkAt offset base)) (refusal UnexpectedEof)) (refused n vs) ≡ gives w → w .at ≤ length s
-    chosen true n vs f = inner (leb offset (length s)) refl _ _ f
-    chosen false n vs f = let z : _≡_ {A = ℕ} 0 1 = cc in absurd (omega arith)
+    opened-rest w k = opened-list (x .encoding) (x .section) (w .at) (w .«base_address») h k
 
 -- a list's coverage, from what was gathered with less room
 module _ (x : Source) (b : Bytes x) where
@@ -439,7 +427,7 @@ module _ (x : Source) (b : Bytes x) where
   module _ (room : ℕ) (f : room ≤ limit) where
     abbrev goesOn : Result Within → Result (List Range)
     goesOn (gives (all n rs)) = gives rs
-    goesOn (gives (full rs w)) = orTooMany (coverageWithin rs (limit - room) (restOf x w))
+    goesOn (gives (full rs w)) = orTooMany (coverageWithin rs (limit - room) (listFrom x w))
     goesOn (refused n vs) = refused n vs
 
     module _ {v : Walk} (o : opening ≡ gives v) where
@@ -451,7 +439,7 @@ module _ (x : Source) (b : Bytes x) where
           let y = within-yielded (limit - room) w (traceOf x w) in
           ap (λ (y : Result (List Range)). mapped runs (after rs y)) y
           ∙ goes-last o rs (within (limit - room) w (traceOf x w)) (e ∙ ap (after rs) y)
-          ∙ ap orTooMany (sym (within-coverage rs (limit - room) (restOf x w) (opened-rest x h w s)))
+          ∙ ap orTooMany (sym (within-coverage rs (limit - room) (listFrom x w) (opened-rest x h w s)))
       goes (refused n vs) s e = refl
 
       opened-goes : coverageOf x ≡ goesOn (coverageWithin [] room x)
@@ -497,10 +485,10 @@ module _ (x : Source) (b : Bytes x) (k : Gathered) (bs es : List ℕ) (g : toldG
   pub short-all : {n : ℕ} → k ≡ gathered.All n → coverageOf x ≡ gives (firsts n bs es)
   short-all q = coverage-goes-on x b short (omega arith) ∙ ap (goesOn x b short (omega arith)) (told-is [] short x k bs es g _ q)
 
-  pub short-full : {w : Walk} → length bs ≡ short → k ≡ gathered.Full w → coverageOf x ≡ orTooMany (coverageWithin (firsts short bs es) (limit - short) (restOf x w))
+  pub short-full : {w : Walk} → length bs ≡ short → k ≡ gathered.Full w → coverageOf x ≡ orTooMany (coverageWithin (firsts short bs es) (limit - short) (listFrom x w))
   short-full {w} l q =
       coverage-goes-on x b short (omega arith) ∙ ap (goesOn x b short (omega arith)) (told-is [] short x k bs es g _ q)
-      ∙ ap (λ (n : ℕ). orTooMany (coverageWithin (firsts n bs es) (limit - short) (restOf x w))) l
+      ∙ ap (λ (n : ℕ). orTooMany (coverageWithin (firsts n bs es) (limit - short) (listFrom x w))) l
 
   pub short-refused : (e : Error) → k ≡ gathered.Refused e → coverageOf x ≡ refusal e
   short-refused e q = coverage-goes-on x b short (omega arith) ∙ ap (goesOn x b short (omega arith)) (told-is [] short x k bs es g _ q)

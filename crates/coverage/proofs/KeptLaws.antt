@@ -11,7 +11,7 @@ use lib.Seq.{drop-cons, getD-take, take-append-seam, take-at}
 use borrow.Author.Tests.{le-leb, lt-leb, lt-ltb, le-ltb, leb-true, ltb-true}
 use Rattle.bytes.specs.Address.{minTombstone}
 use Rattle.coverage.specs.Ranges.{Range, From, Apart, limit}
-use Rattle.coverage.specs.Kept.{paired, firsts, begins, ends, rangesOf, padded, keptAs, lawfulFrom, lawfulSheet}
+use Rattle.coverage.specs.Kept.{paired, firsts, begins, ends, rangesOf, padded, keptAs, lawfulFrom, isLawful}
 use Rattle.coverage.specs.declared.Coverage.{Coverage}
 use Rattle.coverage.proofs.Small.{All, Small}
 
@@ -158,12 +158,12 @@ paired-ends P (suc n) (b ∷ bs) [] h = tt
 paired-ends P (suc n) (b ∷ bs) (e ∷ es) h = (h 0, paired-ends P n bs es (λ i. h (suc i)))
 
 module _ (c : Coverage) where
-  sheet-parts : lawfulSheet c ≡ true → (c .n ≤ limit) × (lawfulFrom 0 (rangesOf c) ≡ true)
-  unfolding lawfulSheet
+  sheet-parts : isLawful c ≡ true → (c .n ≤ limit) × (lawfulFrom 0 (rangesOf c) ≡ true)
+  unfolding isLawful
   sheet-parts e = let p = and-eq-true-iff (leb (c .n) limit) (lawfulFrom 0 (rangesOf c)) .0 e in (leb-true (c .n) limit (p .0), p .1)
 
   -- the ranges of a coverage that makes a lawful sheet; its ends are 64-bit numbers
-  pub sheet-lawful : ((i : ℕ) → getD (c .ends) i 0 < 2 ^ 64) → lawfulSheet c ≡ true → Lawful (rangesOf c)
+  pub sheet-lawful : ((i : ℕ) → getD (c .ends) i 0 < 2 ^ 64) → isLawful c ≡ true → Lawful (rangesOf c)
   unfolding rangesOf
   sheet-lawful h e =
       let p = sheet-parts e in
@@ -173,16 +173,16 @@ module _ (c : Coverage) where
         few = omega (arith, length-take (c .n) (paired (c .begins) (c .ends)));
       }
 
-  pub sheet-many : limit < c .n → lawfulSheet c ≡ false
-  unfolding lawfulSheet
+  pub sheet-many : limit < c .n → isLawful c ≡ false
+  unfolding isLawful
   sheet-many h = rw (lt-leb (c .n) limit h)
 
-  pub sheet-test : c .n ≤ limit → lawfulSheet c ≡ lawfulFrom 0 (rangesOf c)
-  unfolding lawfulSheet
+  pub sheet-test : c .n ≤ limit → isLawful c ≡ lawfulFrom 0 (rangesOf c)
+  unfolding isLawful
   sheet-test h = rw (le-leb (c .n) limit h)
 
 -- a coverage that keeps lawful ranges makes a lawful sheet
-pub kept-lawful : (rs : List Range) → Lawful rs → lawfulSheet (keptAs rs) ≡ true
+pub kept-lawful : (rs : List Range) → Lawful rs → isLawful (keptAs rs) ≡ true
 kept-lawful rs l =
     sheet-test (keptAs rs) (rw (kept-count rs) (l .few)) ∙ ap (lawfulFrom 0) (ranges-kept rs) ∙ from-lawful 0 rs (l .apart) (l .small)
 

@@ -62,19 +62,22 @@ source holds encoding endian s offset base table tableBase =
     }
 
 -- how a list's entries are read
-abbrev pub listed : Holds → Encoding → RunTimeEndian → List ℕ → Listing
-listed rangeList encoding endian s = ranges encoding endian s
-listed (locationList split) encoding endian s = locations split encoding endian s
+abbrev pub listing : Holds → Encoding → RunTimeEndian → List ℕ → Listing
+listing rangeList encoding endian s = ranges encoding endian s
+listing (locationList split) encoding endian s = locations split encoding endian s
 
 -- what a list does from a walk on
-unfoldable pub traceOf : (x : Source) → Walk → Trace (listed (x .holds) (x .encoding) (x .endian) (x .section) .Carried)
+unfoldable pub traceOf : (x : Source) → Walk → Trace (listing (x .holds) (x .encoding) (x .endian) (x .section) .Carried)
 traceOf x w =
-    trace (listed (x .holds) (x .encoding) (x .endian) (x .section)) (tableAt (x .endian) (x .encoding) (x .«table_base») (x .table))
+    trace (listing (x .holds) (x .encoding) (x .endian) (x .section)) (tableAt (x .endian) (x .encoding) (x .«table_base») (x .table))
     (x .encoding .«address_size») (length (x .section)) w
+
+abbrev pub opening : Source → Result Walk
+opening x = opened (x .encoding) (x .section) (x .offset) (x .«base_address»)
 
 -- the ranges that a list yields: its opening, then its walk (docs/SCOPE.md, "Demand 3")
 unfoldable pub yieldedOf : Source → Result (List Range)
-yieldedOf x = andThen (opened (x .encoding) (x .section) (x .offset) (x .«base_address»)) (λ w. yieldedIn limit (traceOf x w))
+yieldedOf x = andThen (opening x) (λ w. yieldedIn limit (traceOf x w))
 
 -- the coverage of a list, or its refusal (docs/SCOPE.md, "Coverage")
 unfoldable pub coverageOf : Source → Result (List Range)

@@ -8,11 +8,10 @@ use lib.ListN.{length, set}
 use Rattle.bytes.specs.Read.{Result, gives, refused, andThen, pick}
 use Rattle.bytes.specs.Error.{refusal}
 use Rattle.bytes.specs.declared.error.Error.the-variants.{TooManyRanges}
-use Rattle.lists.specs.Open.{opened}
 use Rattle.lists.specs.Walk.{item, Trace, over, handed}
 use Rattle.lists.specs.declared.Walk.{Walk}
 use Rattle.coverage.specs.Ranges.{Range, runs}
-use Rattle.coverage.specs.Covered.{Source, source, traceOf}
+use Rattle.coverage.specs.Covered.{Source, source, traceOf, opening}
 use Rattle.coverage.specs.Kept.{firsts}
 use Rattle.coverage.specs.declared.collect.Gathered.{Gathered}
 use Rattle.coverage.specs.declared.collect.Gathered.the-variants as gathered
@@ -62,12 +61,11 @@ covering (full rs w) = full rs w
 -- the coverage of ranges that are there already and of those that a list yields, with room for some number of the latter
 unfoldable pub coverageWithin : List Range → ℕ → Source → Result Within
 coverageWithin done room x =
-    andThen (opened (x .encoding) (x .section) (x .offset) (x .«base_address»))
-    (λ w. andThen (inFront done (within room w (traceOf x w))) (λ g. gives (covering g)))
+    andThen (opening x) (λ w. andThen (inFront done (within room w (traceOf x w))) (λ g. gives (covering g)))
 
 -- a list from a walk on: what comes then is a list that begins there
-abbrev pub restOf : Source → Walk → Source
-restOf x w = source (x .holds) (x .encoding) (x .endian) (x .section) (w .at) (w .«base_address») (x .table) (x .«table_base»)
+abbrev pub listFrom : Source → Walk → Source
+listFrom x w = source (x .holds) (x .encoding) (x .endian) (x .section) (w .at) (w .«base_address») (x .table) (x .«table_base»)
 
 -- the ranges, or refusal 10 where there is no room for all
 abbrev pub orTooMany : Result Within → Result (List Range)

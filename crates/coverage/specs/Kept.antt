@@ -44,5 +44,5 @@ lawfulFrom lo [] = true
 lawfulFrom lo (r ∷ rs) = leb lo (r .0) && ltb (r .0) (r .1) && ltb (r .0) (minTombstone 8) && lawfulFrom (suc (r .1)) rs
 
 -- whether a coverage makes a lawful sheet (docs/SCOPE.md, "Coverage" and refusal 12)
-unfoldable pub lawfulSheet : Coverage → Bool
-lawfulSheet c = leb (c .n) limit && lawfulFrom 0 (rangesOf c)
+unfoldable pub isLawful : Coverage → Bool
+isLawful c = leb (c .n) limit && lawfulFrom 0 (rangesOf c)

@@ -1,15 +1,19 @@
--- A list that opens has an address size that is read; and what follows an opening, by its answer. Assumes nothing.
+-- A list that opens has an address size that is read and lies in its section; and what follows an opening, by its answer. Assumes nothing.
 use mathlib.Core.Path.{_≡_, refl}
 use mathlib.Core.Bool.{Bool, true, false}
 use mathlib.Core.List.{List}
-use Prim.Native.Nat.{ℕ}
+use Prim.Native.Nat.{ℕ, _≤_}
 use native.Mathlib.Omega.{arith}
+use lib.Dec.{leb}
+use borrow.Author.Tests.{leb-true}
+use lib.ListN.{length}
 use Rattle.bytes.specs.Error.{refusal}
 use Rattle.bytes.specs.Read.{Result, gives, refused, andThen, pick}
 use Rattle.bytes.specs.Reader.{isSize}
 use Rattle.bytes.specs.declared.common.Encoding.{Encoding}
 use Rattle.bytes.specs.declared.error.Error.{Error}
-use Rattle.lists.specs.Open.{toldOpened, opened}
+use Rattle.bytes.specs.declared.error.Error.the-variants.{UnexpectedEof}
+use Rattle.lists.specs.Open.{walkAt, toldOpened, opened}
 use Rattle.lists.specs.declared.Walk.{Walk}
 use Rattle.lists.specs.declared.Opened.{Opened}
 use Rattle.lists.specs.declared.Opened.the-variants as answer
@@ -29,3 +33,16 @@ opened-size encoding s offset base {w} q = chosen (isSize (encoding .«address_s
     chosen : (t : Bool) (x : Result Walk) (n : ℕ) (vs : List ℕ) → pick t x (refused n vs) ≡ gives w → t ≡ true
     chosen true x n vs f = refl
     chosen false x n vs f = let z : _≡_ {A = ℕ} 0 1 = cc in absurd (omega arith)
+
+-- the walk of a list that opens stands in its section
+pub opened-inside : (encoding : Encoding) (s : List ℕ) (offset base : ℕ) {w : Walk} → opened encoding s offset base ≡ gives w → w .at ≤ length s
+unfolding opened
+opened-inside encoding s offset base {w} q = chosen (isSize (encoding .«address_size»)) _ _ q
+  where
+    inner : (t : Bool) → leb offset (length s) ≡ t → (n : ℕ) (vs : List ℕ) → pick t (gives (walkAt offset base)) (refused n vs) ≡ gives w → w .at ≤ length s
+    inner true e n vs f = let z : offset ≡ w .at = cc in omega (arith, leb-true offset (length s) e)
+    inner false e n vs f = let z : _≡_ {A = ℕ} 0 1 = cc in absurd (omega arith)
+
+    chosen : (t : Bool) (n : ℕ) (vs : List ℕ) → pick t (pick (leb offset (length s)) (gives (walkAt offset base)) (refusal UnexpectedEof)) (refused n vs) ≡ gives w → w .at ≤ length s
+    chosen true n vs f = inner (leb offset (length s)) refl _ _ f
+    chosen false n vs f = let z : _≡_ {A = ℕ} 0 1 = cc in absurd (omega arith)

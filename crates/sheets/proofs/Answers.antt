@@ -12,7 +12,7 @@ use Rattle.bytes.specs.Read.{gives}
 use Rattle.bytes.specs.Error.{number, values, refusal}
 use Rattle.bytes.specs.declared.error.Error.the-variants.{NoSpace, BadSheet}
 use Rattle.coverage.specs.Ranges.{limit}
-use Rattle.coverage.specs.Kept.{paired, firsts, begins, ends, rangesOf, padded, keptAs, lawfulFrom, lawfulSheet}
+use Rattle.coverage.specs.Kept.{paired, firsts, begins, ends, rangesOf, padded, keptAs, lawfulFrom, isLawful}
 use Rattle.sheets.specs.Sheet.{sheetBytes, sheetKept, addressesIn, countIn, widthIn, rangesIn, isSheet, sheetRanges, sheetLength}
 use Rattle.coverage.specs.Output.{output, written}
 use Rattle.coverage.specs.Told.{answer, made}
@@ -27,10 +27,10 @@ use Rattle.sheets.proofs.Getting.{length-in}
 
 -- what the sheet call writes is the sheet of the coverage handed in, or it is refused
 module _ (c : Coverage) (l : List ℕ) where
-  pub sheet-refused : lawfulSheet c ≡ false → output (refusal BadSheet) l ≡ written (sheetKept c) l
+  pub sheet-refused : isLawful c ≡ false → output (refusal BadSheet) l ≡ written (sheetKept c) l
   sheet-refused e = rw (no-sheet-kept c e) (sym (written-refused (number BadSheet) (values BadSheet) l))
 
-  module _ (law : lawfulSheet c ≡ true) (lb : length (c .begins) ≡ limit) (le : length (c .ends) ≡ limit) where
+  module _ (law : isLawful c ≡ true) (lb : length (c .begins) ≡ limit) (le : length (c .ends) ≡ limit) where
     pub sheet-short : length l < sheetLength (c .n) → output (refusal NoSpace) l ≡ written (sheetKept c) l
     sheet-short h =
         let e = sheet-length (c .begins) (c .ends) (c .n) (lawful-few c law) lb le in
@@ -89,7 +89,7 @@ read-kept n bs =
     ap (λ (m : ℕ). arrays m (padded b) (padded e)) (sym (length-in n (drop 4 bs))) ∙ kept-paired b e k
 
 module _ (bs : List ℕ) (few : countIn bs ≤ limit) (wide : widthIn bs ≡ 8) (long : length bs ≡ sheetLength (countIn bs)) where
-  head-read : isSheet (countIn bs) bs ≡ lawfulSheet (readAs (countIn bs) bs)
+  head-read : isSheet (countIn bs) bs ≡ isLawful (readAs (countIn bs) bs)
   unfolding isSheet
   head-read =
       rw (le-leb (countIn bs) limit few, eq-eqb (widthIn bs) 8 wide, eq-eqb (length bs) (sheetLength (countIn bs)) long)
@@ -109,14 +109,14 @@ module _ {bs : List ℕ} {n : ℕ} {b e : List ℕ} (t : Headed bs n b e) where
   same-read : arrays n b e ≡ readAs (countIn bs) bs
   same-read = rw (t .begins, t .ends, t .count)
 
-  decides : isSheet (countIn bs) bs ≡ lawfulSheet (arrays n b e)
+  decides : isSheet (countIn bs) bs ≡ isLawful (arrays n b e)
   decides =
       head-read bs (omega (arith, t .count, t .few)) (t .wide) (t .long ∙ ap sheetLength (t .count))
-      ∙ ap lawfulSheet (sym same-read)
+      ∙ ap isLawful (sym same-read)
 
-  pub not-lawful : lawfulSheet (arrays n b e) ≡ false → refusal BadSheet ≡ sheetRanges bs
+  pub not-lawful : isLawful (arrays n b e) ≡ false → refusal BadSheet ≡ sheetRanges bs
   not-lawful h = refused-by bs (decides ∙ h)
 
-  pub read-back : lawfulSheet (arrays n b e) ≡ true → answer (gives tt) (arrays n b e) ≡ made (sheetRanges bs)
+  pub read-back : isLawful (arrays n b e) ≡ true → answer (gives tt) (arrays n b e) ≡ made (sheetRanges bs)
   unfolding sheetRanges
   read-back h = rw (decides ∙ h) (ap (answer (gives tt)) (same-read ∙ read-kept (countIn bs) bs))

@@ -14,7 +14,7 @@ use Rattle.bytes.specs.Endianity.{little}
 use Rattle.bytes.specs.Error.{refusal}
 use Rattle.bytes.specs.declared.error.Error.the-variants.{BadSheet}
 use Rattle.coverage.specs.Ranges.{Range, limit}
-use Rattle.coverage.specs.Kept.{paired, begins, ends, rangesOf, lawfulFrom, lawfulSheet}
+use Rattle.coverage.specs.Kept.{paired, begins, ends, rangesOf, lawfulFrom, isLawful}
 use Rattle.bytes.specs.Written.{littleBytes}
 use Rattle.sheets.specs.Sheet.{addressBytes, sheetBytes, sheetKept, addressesIn, countIn, widthIn, rangesIn, isSheet, sheetRanges, sheetLength}
 use Rattle.coverage.specs.declared.Coverage.{Coverage}
@@ -121,11 +121,11 @@ sheet-bytes rs =
 
 -- the sheet of a coverage handed in
 module _ (c : Coverage) where
-  pub sheet-kept : lawfulSheet c ≡ true → sheetKept c ≡ gives (sheetBytes (rangesOf c))
+  pub sheet-kept : isLawful c ≡ true → sheetKept c ≡ gives (sheetBytes (rangesOf c))
   unfolding sheetKept
   sheet-kept h = simp h
 
-  pub no-sheet-kept : lawfulSheet c ≡ false → sheetKept c ≡ refusal BadSheet
+  pub no-sheet-kept : isLawful c ≡ false → sheetKept c ≡ refusal BadSheet
   unfolding sheetKept
   no-sheet-kept h = simp h
 

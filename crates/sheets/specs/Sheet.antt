@@ -9,7 +9,7 @@ use Rattle.bytes.specs.Error.{refusal}
 use Rattle.bytes.specs.Endianity.{little}
 use Rattle.bytes.specs.declared.error.Error.the-variants.{BadSheet}
 use Rattle.coverage.specs.Ranges.{Range, limit}
-use Rattle.coverage.specs.Kept.{paired, begins, ends, rangesOf, lawfulFrom, lawfulSheet}
+use Rattle.coverage.specs.Kept.{paired, begins, ends, rangesOf, lawfulFrom, isLawful}
 use Rattle.bytes.specs.Written.{littleBytes}
 use Rattle.coverage.specs.declared.Coverage.{Coverage}
 
@@ -24,7 +24,7 @@ sheetBytes rs = littleBytes 2 (length rs) ++ littleBytes 2 8 ++ addressBytes (be
 
 -- the sheet of a coverage handed in; one that makes no lawful sheet is refused (docs/SCOPE.md, "Coverage")
 unfoldable pub sheetKept : Coverage → Result (List ℕ)
-sheetKept c = pick (lawfulSheet c) (gives (sheetBytes (rangesOf c))) (refusal BadSheet)
+sheetKept c = pick (isLawful c) (gives (sheetBytes (rangesOf c))) (refusal BadSheet)
 
 -- n addresses from the front of bytes
 unfoldable pub addressesIn : ℕ → List ℕ → List ℕ

@@ -4,12 +4,12 @@ use mathlib.Core.Path.{_≡_, sym, _∙_}
 use mathlib.Core.Bool.{true}
 use borrow.Author.Tests.{not-true, not-false}
 use borrow.Author.Needs.{needs}
-use Rattle.coverage.specs.Kept.{lawfulSheet}
+use Rattle.coverage.specs.Kept.{isLawful}
 use Rattle.canonical.proofs.Answers.{arrays, canonical-refused, canonical-put}
 use Rattle.canonical.proofs.canonical.Statement.{statement}
 use Rattle.canonical.proofs.canonical.Tie as tie
 
-lawful : (c : tie.Else1) → lawfulSheet (c .before .before .before .args .coverage) ≡ true
+lawful : (c : tie.Else1) → isLawful (c .before .before .before .args .coverage) ≡ true
 lawful c = sym (c .before .is-lawful .ensures) ∙ not-false _ (c .if1 .left)
 
 is-lawful-requires : tie.Need-is-lawful-requires

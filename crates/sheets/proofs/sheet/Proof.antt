@@ -6,7 +6,7 @@ use Prim.Native.Nat.{_+_, _*_, _≤_}
 use native.Mathlib.Omega.{arith}
 use borrow.Author.Needs.{needs}
 use lib.ListN.{length}
-use Rattle.coverage.specs.Kept.{lawfulSheet}
+use Rattle.coverage.specs.Kept.{isLawful}
 use Rattle.coverage.proofs.Checked.{lawful-few}
 use Rattle.sheets.specs.Judged.{Judged}
 use Rattle.sheets.proofs.Answers.{sheet-refused, sheet-short, sheet-written}
@@ -14,7 +14,7 @@ use Rattle.sheets.proofs.sheet.Statement.{statement}
 use Rattle.sheets.proofs.sheet.Tie as tie
 
 fits : (c : tie.After-enum-told3) → let a = c .before .before .before .before .before .args in
-    (lawfulSheet (a .coverage) ≡ true) × (4 + 16 * a .coverage .n ≤ length (a .out .now))
+    (isLawful (a .coverage) ≡ true) × (4 + 16 * a .coverage .n ≤ length (a .out .now))
 fits c =
     let j = subst (Judged _ _ _) (c .enum-told3 .given .1) (c .before .before .judge .ensures) in
     (sym (c .before .before .before .is-lawful .ensures) ∙ j .0, j .1)
