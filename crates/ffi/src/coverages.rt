@@ -9,9 +9,9 @@ ghost use Rattle.canonical.specs.Canonical.{canonicalKept};
 ghost use Rattle.canonical.specs.Form.{CanonicalForm};
 ghost use Rattle.sheets.specs.Sheet.{sheetKept, sheetRanges};
 ghost use Rattle.coverage.specs.Output.{written};
-ghost use Rattle.coverage.specs.Told.{made};
+ghost use Rattle.coverage.specs.Told.{placing};
 ghost use Rattle.ffi_words.specs.Common.{left};
-ghost use Rattle.ffi_words.specs.Coverages.{handed, handsOut, handedCoverage, outputLeft};
+ghost use Rattle.ffi_words.specs.Coverages.{handed, placedTold, handedCoverage, outputLeft};
 
 // 12 where the bytes are no sheet.
 #[no_mangle]
@@ -20,7 +20,7 @@ pub extern "C" fn yz_coverage_from_sheet(
     begins: &mut Places,
     ends: &mut Places,
 ) -> YzCount
-    ensures { λ r. ⌜ handed r (now (begins .exit)) (now (ends .exit)) ≡ handsOut (made (sheetRanges (now (sheet .entry)))) (now (begins .entry)) (now (ends .entry)) ⌝ }
+    ensures { λ r. ⌜ handed r (now (begins .exit)) (now (ends .exit)) ≡ placedTold (placing (sheetRanges (now (sheet .entry))) (now (begins .entry)) (now (ends .entry))) ⌝ }
 {
     let made = sheets::from_sheet(sheet);
     ffi_words::coverages::hand_out(made, begins, ends)

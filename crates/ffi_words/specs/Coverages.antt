@@ -24,7 +24,7 @@ pub record Handed : Type 0 where
 abbrev pub handed : YzCount → List ℕ → List ℕ → Handed
 handed a bs es = record { answer = a; begins = bs; ends = es }
 
--- how many ranges, and both arrays whole; a refusal leaves them as they were
+-- a coverage by value handed out: how many ranges, and both arrays whole; a refusal leaves them as they were
 abbrev pub byVerdict : Result Unit → Coverage → List ℕ → List ℕ → Handed
 byVerdict (gives v) c bs es = handed (count done (c .n)) (c .begins) (c .ends)
 byVerdict (refused n vs) c bs es = handed (noCount (refusedBy n vs)) bs es
