@@ -6,6 +6,9 @@
 //!                                    `one` or `several`
 //!   bench --marked [filter]          all rows and sides, a call of `bench_mark`
 //!                                    before each and after it
+//!   bench --real folder              times over all lists of the builds that
+//!                                    `run-real` made there
+//!   bench --marked-real folder       the same rows with marks
 
 /// A task so many times; the sum of the last. The outer loop goes round once;
 /// by it the compiler takes the inner one for hot, and inlines all of gimli's
@@ -24,8 +27,12 @@ macro_rules! repeat {
 
 mod bench_gimli;
 mod bench_port;
+mod bench_real;
 mod bench_rows;
 mod bench_sets;
+#[path = "real/elf.rs"]
+#[allow(dead_code)]
+mod elf;
 
 use bench_gimli::{Covering, Lists, Seeking, Walking, Writing};
 use bench_rows::{Kind, Row, Task};
@@ -190,31 +197,27 @@ struct Measured {
     ratios: [Spread; 2],
 }
 
-fn measure(row: &Row, runs: &mut [Run<'_>; 3], settings: &Settings) -> Measured {
+/// A pass reads so many entries, or lists.
+fn measure(name: &str, each: u64, runs: &mut [Run<'_>; 3], settings: &Settings) -> Measured {
     let passes = passes(runs, settings.sample);
     let rounds: Vec<[f64; 3]> =
         (0..settings.rounds).map(|_| runs.each_mut().map(|run| time(run, passes))).collect();
-    let entries = (passes * row.entries) as f64;
+    let each = (passes * each) as f64;
     let median =
         |side: usize| Spread::new(rounds.iter().map(|round| round[side]).collect()).median();
     let ratios =
         |side: usize| Spread::new(rounds.iter().map(|round| round[0] / round[side]).collect());
     Measured {
-        name: row.name.clone(),
-        times: [0, 1, 2].map(|side| median(side) / entries),
+        name: name.to_string(),
+        times: [0, 1, 2].map(|side| median(side) / each),
         ratios: [ratios(1), ratios(2)],
     }
 }
 
-fn header() {
+fn header(each: &str) {
     println!(
         "{:44} {:>8} {:>8} {:>8}   {:31}   {:31}",
-        "ns for each entry",
-        "port",
-        "one",
-        "several",
-        "port/one: median quartiles range",
-        "port/several"
+        each, "port", "one", "several", "port/one: median quartiles range", "port/several"
     );
 }
 
@@ -256,7 +259,7 @@ fn summary(all: &mut [Measured]) {
     }
     all.sort_by(|a, b| b.ratios[0].median().total_cmp(&a.ratios[0].median()));
     println!("the worst, to one caller:");
-    header();
+    header("ns for each entry");
     all.iter().take(10).for_each(print);
 }
 
@@ -276,12 +279,12 @@ fn chosen(wanted: impl Fn(&str) -> bool) -> Vec<Row> {
 fn table(filter: &str, settings: &Settings) {
     let rows = chosen(|name| name.contains(filter));
     println!("{} rounds of port, one, several", settings.rounds);
-    header();
+    header("ns for each entry");
     let mut all = Vec::new();
     for row in &rows {
         let mut runs = sides(row);
         check(row, &mut runs);
-        let measured = measure(row, &mut runs, settings);
+        let measured = measure(&row.name, row.entries, &mut runs, settings);
         print(&measured);
         all.push(measured);
     }
@@ -306,19 +309,22 @@ pub extern "C" fn bench_mark(section: u64) {
     black_box(section);
 }
 
-/// One line for each pair of marks: row, side, and how many entries are read
-/// between them.
+/// One line for each pair of marks: row, side, and how many entries, or lists,
+/// are read between them.
+fn mark(name: &str, each: u64, runs: &mut [Run<'_>; 3]) {
+    let passes = 1 + 2000 / each;
+    for (side, run) in SIDES.iter().zip(runs) {
+        println!("{name} {side} {}", passes * each);
+        black_box(run(1));
+        bench_mark(1);
+        black_box(run(passes));
+        bench_mark(0);
+    }
+}
+
 fn marked(filter: &str) {
     for row in &chosen(|name| name.contains(filter)) {
-        let passes = 1 + 2000 / row.entries;
-        let mut runs = sides(row);
-        for (side, run) in SIDES.iter().zip(&mut runs) {
-            println!("{} {side} {}", row.name, passes * row.entries);
-            black_box(run(1));
-            bench_mark(1);
-            black_box(run(passes));
-            bench_mark(0);
-        }
+        mark(&row.name, row.entries, &mut sides(row));
     }
 }
 
@@ -340,6 +346,8 @@ fn main() {
         ["--count", side, row, passes] => count(side, row, passes),
         ["--marked"] => marked(""),
         ["--marked", filter] => marked(filter),
+        ["--real", folder] => bench_real::table(folder, &full),
+        ["--marked-real", folder] => bench_real::marked(folder),
         [filter] if !filter.starts_with('-') => table(filter, &full),
         _ => fail("bench [--quick] [filter] | --names [filter] | --count side row passes"),
     }

@@ -4,7 +4,8 @@
 //! Over `RunTimeEndian` all loops of the program share one `next`, which stays
 //! a call ("several callers"). Each of the byte orders `Walking`, `Seeking`,
 //! `Covering`, `Writing` is a `RunTimeEndian` under another name, so that its
-//! `next` has one caller and is inlined there ("one caller").
+//! `next` has one caller and is inlined there ("one caller"); those with
+//! `Real` before are for loops over many lists.
 
 use crate::bench_rows::{Kind, Row};
 use oracle::common::{DebugAddrBase, Encoding, Format, LocationListsOffset, RangeListsOffset};
@@ -37,7 +38,7 @@ macro_rules! orders {
     };
 }
 
-orders! { Walking Seeking Covering Writing }
+orders! { Walking Seeking Covering Writing RealWalking RealSeeking RealCovering RealWriting }
 
 /// A byte order that the program chooses when it runs.
 pub trait Order: Endianity + From<RunTimeEndian> {}
@@ -53,7 +54,7 @@ pub struct Lists<'a, E: Endianity> {
     table: DebugAddr<Slice<'a, E>>,
     table_base: DebugAddrBase<usize>,
     section: &'a [u8],
-    offset: usize,
+    pub offset: u64,
     encoding: Encoding,
     base_address: u64,
     split: bool,
@@ -64,7 +65,8 @@ impl<'a, E: Order> Lists<'a, E> {
         let order = if row.big_endian { RunTimeEndian::Big } else { RunTimeEndian::Little };
         let order = E::from(order);
         let (version, address_size) = (row.version, row.address_size);
-        let section = &row.section[..];
+        let format = if row.dwarf64 { Format::Dwarf64 } else { Format::Dwarf32 };
+        let section = row.section;
         let (old, new) = if version <= 4 { (section, &[][..]) } else { (&[][..], section) };
         Lists {
             ranges: RangeLists::new(DebugRanges::new(old, order), DebugRngLists::new(new, order)),
@@ -72,25 +74,25 @@ impl<'a, E: Order> Lists<'a, E> {
                 DebugLoc::new(old, order),
                 DebugLocLists::new(new, order),
             ),
-            table: DebugAddr::from(EndianSlice::new(&row.table, order)),
+            table: DebugAddr::from(EndianSlice::new(row.table, order)),
             table_base: DebugAddrBase(row.table_base as usize),
             section,
-            offset: row.offset as usize,
-            encoding: Encoding { address_size, format: Format::Dwarf32, version },
+            offset: row.offset,
+            encoding: Encoding { address_size, format, version },
             base_address: row.base_address,
             split: row.kind == Kind::SplitLocations,
         }
     }
 
     #[inline(always)]
-    pub fn open_ranges(&self) -> Result<RngListIter<Slice<'a, E>>, Error> {
-        let offset = RangeListsOffset(self.offset);
+    pub fn open_ranges(&self, offset: u64) -> Result<RngListIter<Slice<'a, E>>, Error> {
+        let offset = RangeListsOffset(offset as usize);
         self.ranges.ranges(offset, self.encoding, self.base_address, &self.table, self.table_base)
     }
 
     #[inline(always)]
-    fn open_locations(&self) -> Result<LocListIter<Slice<'a, E>>, Error> {
-        let offset = LocationListsOffset(self.offset);
+    pub fn open_locations(&self, offset: u64) -> Result<LocListIter<Slice<'a, E>>, Error> {
+        let offset = LocationListsOffset(offset as usize);
         let (encoding, base, table) = (self.encoding, self.base_address, &self.table);
         if self.split {
             self.locations.locations_dwo(offset, encoding, base, table, self.table_base)
@@ -107,18 +109,21 @@ impl<'a, E: Order> Lists<'a, E> {
     }
 }
 
-fn refused(error: Error) -> ! {
+pub fn refused(error: Error) -> ! {
     panic!("gimli refused: {error:?}")
 }
 
 #[inline(never)]
 pub fn walk_ranges<E: Order>(lists: &Lists<'_, E>, passes: u64) -> u64 {
-    repeat!(passes, walk_ranges_once(black_box(lists)).unwrap_or_else(|error| refused(error)))
+    repeat!(passes, {
+        let lists = black_box(lists);
+        walk_ranges_once(lists, lists.offset).unwrap_or_else(|error| refused(error))
+    })
 }
 
 #[inline(always)]
-fn walk_ranges_once<E: Order>(lists: &Lists<'_, E>) -> Result<u64, Error> {
-    let mut walk = lists.open_ranges()?;
+pub fn walk_ranges_once<E: Order>(lists: &Lists<'_, E>, offset: u64) -> Result<u64, Error> {
+    let mut walk = lists.open_ranges(offset)?;
     let mut sum = 0u64;
     while let Some(range) = walk.next()? {
         sum = sum.wrapping_add(range.begin) ^ range.end;
@@ -128,12 +133,15 @@ fn walk_ranges_once<E: Order>(lists: &Lists<'_, E>) -> Result<u64, Error> {
 
 #[inline(never)]
 pub fn walk_locations<E: Order>(lists: &Lists<'_, E>, passes: u64) -> u64 {
-    repeat!(passes, walk_locations_once(black_box(lists)).unwrap_or_else(|error| refused(error)))
+    repeat!(passes, {
+        let lists = black_box(lists);
+        walk_locations_once(lists, lists.offset).unwrap_or_else(|error| refused(error))
+    })
 }
 
 #[inline(always)]
-fn walk_locations_once<E: Order>(lists: &Lists<'_, E>) -> Result<u64, Error> {
-    let mut walk = lists.open_locations()?;
+pub fn walk_locations_once<E: Order>(lists: &Lists<'_, E>, offset: u64) -> Result<u64, Error> {
+    let mut walk = lists.open_locations(offset)?;
     let mut sum = 0u64;
     while let Some(entry) = walk.next()? {
         let (place, length) = (lists.place(&entry), entry.data.0.len() as u64);
@@ -148,19 +156,28 @@ fn holds(range: &Range, address: u64) -> bool {
 
 #[inline(never)]
 pub fn lookup_range<E: Order>(lists: &Lists<'_, E>, address: u64, passes: u64) -> u64 {
-    repeat!(
-        passes,
-        match lookup_range_once(black_box(lists), address) {
-            Ok(Some(range)) => range.begin ^ range.end,
-            Ok(None) => 0,
-            Err(error) => refused(error),
-        }
-    )
+    repeat!(passes, {
+        let lists = black_box(lists);
+        lookup_range_once(lists, lists.offset, address)
+    })
 }
 
 #[inline(always)]
-fn lookup_range_once<E: Order>(lists: &Lists<'_, E>, address: u64) -> Result<Option<Range>, Error> {
-    let mut walk = lists.open_ranges()?;
+pub fn lookup_range_once<E: Order>(lists: &Lists<'_, E>, offset: u64, address: u64) -> u64 {
+    match find_range(lists, offset, address) {
+        Ok(Some(range)) => range.begin ^ range.end,
+        Ok(None) => 0,
+        Err(error) => refused(error),
+    }
+}
+
+#[inline(always)]
+fn find_range<E: Order>(
+    lists: &Lists<'_, E>,
+    offset: u64,
+    address: u64,
+) -> Result<Option<Range>, Error> {
+    let mut walk = lists.open_ranges(offset)?;
     while let Some(range) = walk.next()? {
         if holds(&range, address) {
             return Ok(Some(range));
@@ -171,25 +188,31 @@ fn lookup_range_once<E: Order>(lists: &Lists<'_, E>, address: u64) -> Result<Opt
 
 #[inline(never)]
 pub fn lookup_location<E: Order>(lists: &Lists<'_, E>, address: u64, passes: u64) -> u64 {
-    repeat!(
-        passes,
-        match lookup_location_once(black_box(lists), address) {
-            Ok(Some(entry)) => {
-                let (place, length) = (lists.place(&entry), entry.data.0.len() as u64);
-                (entry.range.begin ^ entry.range.end).wrapping_add(place) ^ length
-            }
-            Ok(None) => 0,
-            Err(error) => refused(error),
-        }
-    )
+    repeat!(passes, {
+        let lists = black_box(lists);
+        lookup_location_once(lists, lists.offset, address)
+    })
 }
 
 #[inline(always)]
-fn lookup_location_once<'a, E: Order>(
+pub fn lookup_location_once<E: Order>(lists: &Lists<'_, E>, offset: u64, address: u64) -> u64 {
+    match find_location(lists, offset, address) {
+        Ok(Some(entry)) => {
+            let (place, length) = (lists.place(&entry), entry.data.0.len() as u64);
+            (entry.range.begin ^ entry.range.end).wrapping_add(place) ^ length
+        }
+        Ok(None) => 0,
+        Err(error) => refused(error),
+    }
+}
+
+#[inline(always)]
+fn find_location<'a, E: Order>(
     lists: &Lists<'a, E>,
+    offset: u64,
     address: u64,
 ) -> Result<Option<LocationListEntry<Slice<'a, E>>>, Error> {
-    let mut walk = lists.open_locations()?;
+    let mut walk = lists.open_locations(offset)?;
     while let Some(entry) = walk.next()? {
         if holds(&entry.range, address) {
             return Ok(Some(entry));
@@ -198,10 +221,29 @@ fn lookup_location_once<'a, E: Order>(
     Ok(None)
 }
 
+/// gimli's walks by the ranges that they yield.
+pub trait Yields {
+    fn next_range(&mut self) -> Result<Option<Range>, Error>;
+}
+
+impl<E: Order> Yields for RngListIter<Slice<'_, E>> {
+    #[inline(always)]
+    fn next_range(&mut self) -> Result<Option<Range>, Error> {
+        self.next()
+    }
+}
+
+impl<E: Order> Yields for LocListIter<Slice<'_, E>> {
+    #[inline(always)]
+    fn next_range(&mut self) -> Result<Option<Range>, Error> {
+        Ok(self.next()?.map(|entry| entry.range))
+    }
+}
+
 /// How many entries a list yields: another caller of `next`.
 #[inline(never)]
 pub fn count_ranges(lists: &Lists<'_, RunTimeEndian>) -> u64 {
-    let mut walk = lists.open_ranges().unwrap_or_else(|error| refused(error));
+    let mut walk = lists.open_ranges(lists.offset).unwrap_or_else(|error| refused(error));
     let mut count = 0;
     while walk.next().unwrap_or_else(|error| refused(error)).is_some() {
         count += 1;
@@ -211,7 +253,7 @@ pub fn count_ranges(lists: &Lists<'_, RunTimeEndian>) -> u64 {
 
 #[inline(never)]
 pub fn count_locations(lists: &Lists<'_, RunTimeEndian>) -> u64 {
-    let mut walk = lists.open_locations().unwrap_or_else(|error| refused(error));
+    let mut walk = lists.open_locations(lists.offset).unwrap_or_else(|error| refused(error));
     let mut count = 0;
     while walk.next().unwrap_or_else(|error| refused(error)).is_some() {
         count += 1;

@@ -10,8 +10,8 @@ mod ffi;
 
 use crate::bench_rows::{Kind, Row};
 use crate::bench_sets::{Coverage, sum_of_bytes};
-pub use ffi::LIMIT;
 use ffi::*;
+pub use ffi::{Encoding, LIMIT};
 use std::hint::black_box;
 
 #[cold]
@@ -29,11 +29,11 @@ fn lent(row: &Row) -> (Ptr, usize, Ptr, usize) {
 /// the wrapper has it. A caller that makes it anew for each call stores it in
 /// pieces, and the load of the word waits for them.
 #[inline(never)]
-fn encoding(row: &Row) -> Encoding {
+pub fn encoding(row: &Row) -> Encoding {
     Encoding {
         version: row.version,
         address_size: row.address_size,
-        dwarf64: false,
+        dwarf64: row.dwarf64,
         big_endian: row.big_endian.into(),
     }
 }
@@ -46,15 +46,17 @@ fn file_type(row: &Row) -> u32 {
 #[inline(never)]
 pub fn walk_ranges(row: &Row, passes: u64) -> u64 {
     let encoding = encoding(row);
-    repeat!(passes, walk_ranges_once(black_box(row), black_box(&encoding)))
+    repeat!(passes, {
+        let row = black_box(row);
+        walk_ranges_once(row, black_box(&encoding), row.offset)
+    })
 }
 
 #[inline(never)]
-fn walk_ranges_once(row: &Row, encoding: &Encoding) -> u64 {
+pub fn walk_ranges_once(row: &Row, encoding: &Encoding, offset: u64) -> u64 {
     let ((s, n, t, m), encoding, table_base) = (lent(row), *encoding, row.table_base);
     let (mut walk, mut sum) = (Walk::default(), 0u64);
-    let (offset, base) = (row.offset, row.base_address);
-    let opened = unsafe { yz_range_open(s, n, encoding, offset, base, &mut walk) };
+    let opened = unsafe { yz_range_open(s, n, encoding, offset, row.base_address, &mut walk) };
     if opened.result != DONE {
         refused(opened.refusal);
     }
@@ -71,14 +73,17 @@ fn walk_ranges_once(row: &Row, encoding: &Encoding) -> u64 {
 #[inline(never)]
 pub fn walk_locations(row: &Row, passes: u64) -> u64 {
     let encoding = encoding(row);
-    repeat!(passes, walk_locations_once(black_box(row), black_box(&encoding)))
+    repeat!(passes, {
+        let row = black_box(row);
+        walk_locations_once(row, black_box(&encoding), row.offset)
+    })
 }
 
 #[inline(never)]
-fn walk_locations_once(row: &Row, encoding: &Encoding) -> u64 {
+pub fn walk_locations_once(row: &Row, encoding: &Encoding, offset: u64) -> u64 {
     let ((s, n, t, m), encoding, table_base) = (lent(row), *encoding, row.table_base);
     let (mut walk, mut sum) = (Walk::default(), 0u64);
-    let (file, offset, base) = (file_type(row), row.offset, row.base_address);
+    let (file, base) = (file_type(row), row.base_address);
     let opened = unsafe { yz_location_open(s, n, encoding, file, offset, base, &mut walk) };
     if opened.result != DONE {
         refused(opened.refusal);
@@ -102,13 +107,16 @@ fn added(sum: u64, found: Location) -> u64 {
 #[inline(never)]
 pub fn lookup_range(row: &Row, address: u64, passes: u64) -> u64 {
     let encoding = encoding(row);
-    repeat!(passes, lookup_range_once(black_box(row), black_box(&encoding), address))
+    repeat!(passes, {
+        let row = black_box(row);
+        lookup_range_once(row, black_box(&encoding), row.offset, address)
+    })
 }
 
 #[inline(always)]
-fn lookup_range_once(row: &Row, encoding: &Encoding, address: u64) -> u64 {
+pub fn lookup_range_once(row: &Row, encoding: &Encoding, offset: u64, address: u64) -> u64 {
     let ((s, n, t, m), encoding, table_base) = (lent(row), *encoding, row.table_base);
-    let (offset, base) = (row.offset, row.base_address);
+    let base = row.base_address;
     let found = unsafe { yz_range_lookup(s, n, t, m, table_base, encoding, offset, base, address) };
     match found.result {
         DONE => found.item.begin ^ found.item.end,
@@ -120,13 +128,16 @@ fn lookup_range_once(row: &Row, encoding: &Encoding, address: u64) -> u64 {
 #[inline(never)]
 pub fn lookup_location(row: &Row, address: u64, passes: u64) -> u64 {
     let encoding = encoding(row);
-    repeat!(passes, lookup_location_once(black_box(row), black_box(&encoding), address))
+    repeat!(passes, {
+        let row = black_box(row);
+        lookup_location_once(row, black_box(&encoding), row.offset, address)
+    })
 }
 
 #[inline(always)]
-fn lookup_location_once(row: &Row, encoding: &Encoding, address: u64) -> u64 {
+pub fn lookup_location_once(row: &Row, encoding: &Encoding, offset: u64, address: u64) -> u64 {
     let ((s, n, t, m), encoding, table_base) = (lent(row), *encoding, row.table_base);
-    let (file, offset, base) = (file_type(row), row.offset, row.base_address);
+    let (file, base) = (file_type(row), row.base_address);
     let found = unsafe {
         yz_location_lookup(s, n, t, m, table_base, encoding, file, offset, base, address)
     };
@@ -141,30 +152,47 @@ fn lookup_location_once(row: &Row, encoding: &Encoding, address: u64) -> u64 {
 pub fn coverage(row: &Row, made: &mut Coverage, passes: u64) -> u64 {
     let encoding = encoding(row);
     repeat!(passes, {
-        coverage_once(black_box(row), black_box(&encoding), made);
+        let row = black_box(row);
+        range_coverage_once(row, black_box(&encoding), row.offset, made);
         black_box(&*made).n
     });
     made.sum()
 }
 
+/// How many ranges a coverage has, or bytes a canonical list.
 #[inline(always)]
-fn coverage_once(row: &Row, encoding: &Encoding, made: &mut Coverage) {
-    let ((s, n, t, m), encoding, table_base) = (lent(row), *encoding, row.table_base);
-    let (offset, base) = (row.offset, row.base_address);
-    let (begins, ends) = (&mut made.begins, &mut made.ends);
-    let count =
-        unsafe { yz_range_coverage(s, n, t, m, table_base, encoding, offset, base, begins, ends) };
+fn counted(count: Answer<u64>) -> u64 {
     if count.result != DONE {
         refused(count.refusal);
     }
-    made.n = count.item;
+    count.item
+}
+
+#[inline(always)]
+pub fn range_coverage_once(row: &Row, encoding: &Encoding, offset: u64, made: &mut Coverage) {
+    let ((s, n, t, m), encoding, table_base) = (lent(row), *encoding, row.table_base);
+    let (base, begins, ends) = (row.base_address, &mut made.begins, &mut made.ends);
+    made.n = counted(unsafe {
+        yz_range_coverage(s, n, t, m, table_base, encoding, offset, base, begins, ends)
+    });
+}
+
+#[inline(always)]
+pub fn location_coverage_once(row: &Row, encoding: &Encoding, offset: u64, made: &mut Coverage) {
+    let ((s, n, t, m), encoding, table_base) = (lent(row), *encoding, row.table_base);
+    let (file, base) = (file_type(row), row.base_address);
+    let (begins, ends) = (&mut made.begins, &mut made.ends);
+    made.n = counted(unsafe {
+        yz_location_coverage(s, n, t, m, table_base, encoding, file, offset, base, begins, ends)
+    });
 }
 
 #[inline(never)]
 pub fn canonical(row: &Row, output: &mut [u8], passes: u64) -> u64 {
     let encoding = encoding(row);
     let written = repeat!(passes, {
-        let written = canonical_once(black_box(row), black_box(&encoding), output);
+        let row = black_box(row);
+        let written = range_canonical_once(row, black_box(&encoding), row.offset, output);
         black_box(&*output);
         written
     });
@@ -172,14 +200,25 @@ pub fn canonical(row: &Row, output: &mut [u8], passes: u64) -> u64 {
 }
 
 #[inline(always)]
-fn canonical_once(row: &Row, encoding: &Encoding, output: &mut [u8]) -> u64 {
+pub fn range_canonical_once(row: &Row, encoding: &Encoding, offset: u64, output: &mut [u8]) -> u64 {
     let ((s, n, t, m), encoding, table_base) = (lent(row), *encoding, row.table_base);
-    let (offset, base) = (row.offset, row.base_address);
+    let (base, o, length) = (row.base_address, output.as_mut_ptr(), output.len());
+    counted(unsafe {
+        yz_range_canonical(s, n, t, m, table_base, encoding, offset, base, o, length)
+    })
+}
+
+#[inline(always)]
+pub fn location_canonical_once(
+    row: &Row,
+    encoding: &Encoding,
+    offset: u64,
+    output: &mut [u8],
+) -> u64 {
+    let ((s, n, t, m), encoding, table_base) = (lent(row), *encoding, row.table_base);
+    let (file, base) = (file_type(row), row.base_address);
     let (o, length) = (output.as_mut_ptr(), output.len());
-    let count =
-        unsafe { yz_range_canonical(s, n, t, m, table_base, encoding, offset, base, o, length) };
-    if count.result != DONE {
-        refused(count.refusal);
-    }
-    count.item
+    counted(unsafe {
+        yz_location_canonical(s, n, t, m, table_base, encoding, file, offset, base, o, length)
+    })
 }

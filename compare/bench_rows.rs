@@ -21,18 +21,21 @@ pub enum Task {
 
 /// A list, what its reading depends on, and the task. `yields` is how many
 /// ranges the list has, `entries` how many entries the task reads; a time is
-/// divided by it.
+/// divided by it. Bytes stay until the program ends, so that rows can share
+/// them.
+#[derive(Clone)]
 pub struct Row {
     pub name: String,
     pub task: Task,
     pub kind: Kind,
-    pub section: Vec<u8>,
+    pub section: &'static [u8],
     pub offset: u64,
-    pub table: Vec<u8>,
+    pub table: &'static [u8],
     pub table_base: u64,
     pub base_address: u64,
     pub version: u16,
     pub address_size: u8,
+    pub dwarf64: bool,
     pub big_endian: bool,
     pub yields: u64,
     pub entries: u64,
@@ -267,14 +270,15 @@ impl Plan {
             name,
             task: Task::Walk,
             kind,
-            section: writer.out,
+            section: writer.out.leak(),
             offset: LIST_OFFSET as u64,
-            table: table(size, big),
+            table: table(size, big).leak(),
             table_base: TABLE_BASE as u64,
             // A bare pair's begin is an address already.
             base_address: if self.bare() || size == 1 { 0 } else { 0x1000 },
             version,
             address_size: size,
+            dwarf64: false,
             big_endian: big,
             yields,
             entries,
@@ -327,7 +331,7 @@ impl Rows<'_> {
 }
 
 /// No range holds it: ends are at most 2^64 - 1, and not held.
-const NOWHERE: u64 = u64::MAX;
+pub const NOWHERE: u64 = u64::MAX;
 
 /// A short and a long walk, and the same inside a lookup in vain, which meets
 /// every entry: there the port's loop and its one caller of `next` stand in one

@@ -1,7 +1,8 @@
 //! Coverage and canonical list over gimli's walk, in plain Rust: collect,
 //! sort, merge.
 
-use crate::bench_gimli::{Lists, Order};
+use crate::bench_gimli::{Lists, Order, Yields};
+use oracle::read::Error;
 use std::hint::black_box;
 
 pub const MOST: usize = crate::bench_port::LIMIT;
@@ -41,10 +42,10 @@ pub fn sum_of_bytes(bytes: &[u8]) -> u64 {
 
 /// The yielded ranges, sorted.
 #[inline(always)]
-fn gather<E: Order>(lists: &Lists<'_, E>, found: &mut Vec<(u64, u64)>) -> Result<(), Refused> {
+fn gather(walk: Result<impl Yields, Error>, found: &mut Vec<(u64, u64)>) -> Result<(), Refused> {
     found.clear();
-    let mut walk = lists.open_ranges().map_err(|_| Refused::Walk)?;
-    while let Some(range) = walk.next().map_err(|_| Refused::Walk)? {
+    let mut walk = walk.map_err(|_| Refused::Walk)?;
+    while let Some(range) = walk.next_range().map_err(|_| Refused::Walk)? {
         if found.len() == MOST {
             return Err(Refused::TooManyRanges);
         }
@@ -66,11 +67,11 @@ fn merge(found: &mut Vec<(u64, u64)>) {
 }
 
 #[inline(always)]
-fn coverage_once<E: Order>(
-    lists: &Lists<'_, E>,
+pub fn coverage_once(
+    walk: Result<impl Yields, Error>,
     found: &mut Vec<(u64, u64)>,
 ) -> Result<Coverage, Refused> {
-    gather(lists, found)?;
+    gather(walk, found)?;
     merge(found);
     // Filled where it is answered, which saves a copy.
     let mut answer = Ok(Coverage::new());
@@ -90,7 +91,8 @@ pub fn coverage<E: Order>(lists: &Lists<'_, E>, found: &mut Vec<(u64, u64)>, pas
     repeat!(passes, {
         pass += 1;
         // Seen where it stands: a copy of 16 KiB would be the benchmark's own.
-        let made = coverage_once(black_box(lists), found);
+        let lists = black_box(lists);
+        let made = coverage_once(lists.open_ranges(lists.offset), found);
         let made = black_box(&made).as_ref().expect("a coverage");
         if pass == passes { made.sum() } else { made.n }
     })
@@ -112,12 +114,12 @@ fn write_uleb128(output: &mut [u8], at: usize, mut value: u64) -> usize {
 }
 
 #[inline(always)]
-fn canonical_once<E: Order>(
-    lists: &Lists<'_, E>,
+pub fn canonical_once(
+    walk: Result<impl Yields, Error>,
     found: &mut Vec<(u64, u64)>,
     output: &mut [u8],
 ) -> Result<usize, Refused> {
-    gather(lists, found)?;
+    gather(walk, found)?;
     merge(found);
     let length =
         found.iter().map(|(begin, end)| 9 + uleb128_length(end - begin)).sum::<usize>() + 1;
@@ -140,7 +142,9 @@ pub fn canonical<E: Order>(
     passes: u64,
 ) -> u64 {
     let written = repeat!(passes, {
-        let written = canonical_once(black_box(lists), found, output).expect("a canonical list");
+        let lists = black_box(lists);
+        let walk = lists.open_ranges(lists.offset);
+        let written = canonical_once(walk, found, output).expect("a canonical list");
         black_box(&*output);
         written as u64
     });

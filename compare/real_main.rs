@@ -2,7 +2,8 @@
 //! print, on sections that compilers wrote. `run-real` makes the builds and
 //! the dumps; this program is told of them by a file with a line for each
 //! build: compiler, DWARF version, flavour, folder, `linked` or `objects`.
-//! It prints a table, and exits with 1 on any difference.
+//! It prints a table, and exits with 1 on any difference. Beside that file it
+//! writes another, `lists`, with a line for each list, for the benchmark.
 //!
 //!   real <file> [model]
 
@@ -48,6 +49,8 @@ struct Row {
     differences: u64,
     /// How often each form of a raw entry was met.
     forms: BTreeMap<String, u64>,
+    /// What the lists are read with, for the benchmark.
+    listed: String,
 }
 
 impl Row {
@@ -65,6 +68,7 @@ impl Row {
         for (form, count) in &other.forms {
             *self.forms.entry(form.clone()).or_default() += count;
         }
+        self.listed.push_str(&other.listed);
     }
 
     fn print(&self, build: &str, section: &str) {
@@ -474,6 +478,7 @@ fn yields(shown: &Shown, bound: u64) -> bool {
 /// A file, and what the dumps say about it.
 struct File {
     name: String,
+    path: String,
     elf: Elf,
     units: Vec<Unit>,
     /// llvm-dwarfdump's lists, and readelf's; empty without the tool.
@@ -490,6 +495,7 @@ fn file(path: &Path) -> Option<File> {
     let elf = elf::read(&std::fs::read(path).ok()?)?;
     Some(File {
         name: path.file_name()?.to_string_lossy().into_owned(),
+        path: path.display().to_string(),
         elf,
         units: dumps::units(&text(path, ".info")),
         dump: text(path, ".lists"),
@@ -589,6 +595,18 @@ impl Build {
                 }
             }
         }
+        // What lies between lists is read, too, by a walk through the section;
+        // units tell it from lists.
+        let pointed = |start: &u64, context: &Context| {
+            starts.get(start).is_some_and(|contexts| contexts.contains(context))
+        };
+        for (&(start, context), walked) in &section.met {
+            if !file.units.is_empty() && !pointed(&start, &context) {
+                continue;
+            }
+            let line = listed(&file.path, name, kind, &main.path, context, start, walked);
+            section.row.listed.push_str(&line);
+        }
         Some(section.row)
     }
 
@@ -674,6 +692,28 @@ fn context(unit: &Unit, skeleton: Option<&Unit>) -> Context {
     }
 }
 
+/// A list as `bench_real.rs` reads it: what it shares with others, its start,
+/// its raw entries, its ranges, the begin of the middle one, and whether it is
+/// refused.
+fn listed(
+    file: &str,
+    section: &str,
+    kind: Kind,
+    table: &str,
+    context: Context,
+    start: u64,
+    walked: &Walked,
+) -> String {
+    let Context { version, address_size, dwarf64, base_address, table_base } = context;
+    let (entries, ranges) = (walked.raw.len(), walked.yielded.len());
+    let middle = walked.yielded.get(ranges / 2).map_or(0, |entry| entry.begin);
+    format!(
+        "{file}\t{section}\t{kind:?}\t{table}\t{version}\t{address_size}\t{dwarf64}\t\
+         {base_address}\t{table_base}\t{start}\t{entries}\t{ranges}\t{middle}\t{}\n",
+        walked.refused
+    )
+}
+
 /// Address tables: with a header from version 5 on, else from each base.
 fn addresses(port: &impl Port, file: &File, linked: bool, row: &mut Row) {
     let Some(section) = file.elf.sections.get(".debug_addr").filter(|bytes| !bytes.is_empty())
@@ -734,7 +774,7 @@ fn tables(port: &impl Port, section: &[u8], big: bool, row: &mut Row, got: &mut 
     }
 }
 
-fn run(port: &impl Added, builds: &str) -> u64 {
+fn run(port: &impl Added, builds: &str) -> Row {
     print!("{:<26} {:<2} {:<14} {:<6} ", "compiler", "v", "flavour", "order");
     print!(" {:<19}", "section");
     for head in
@@ -762,7 +802,7 @@ fn run(port: &impl Added, builds: &str) -> u64 {
          against readelf's; left: printed lists that the tool is known to read otherwise; \
          refused: lists that are refused by oracle and port alike"
     );
-    all.differences
+    all
 }
 
 fn main() {
@@ -770,9 +810,10 @@ fn main() {
     let path = words.first().expect("the file that names the builds");
     let builds = std::fs::read_to_string(path).expect("the file that names the builds");
     let model = words.iter().any(|word| word == "model");
-    let differences = if model { run(&model::Model, &builds) } else { run(&port::Ffi, &builds) };
-    println!("{differences} differences");
-    if differences > 0 {
+    let all = if model { run(&model::Model, &builds) } else { run(&port::Ffi, &builds) };
+    std::fs::write(Path::new(path).with_file_name("lists"), &all.listed).expect("a file for lists");
+    println!("{} differences", all.differences);
+    if all.differences > 0 {
         std::process::exit(1);
     }
 }
