@@ -33,31 +33,30 @@ struct Unit {
     lists: Vec<List>,
 }
 
+const OTHER: &str = "the file lists is of another run-real";
+
 fn number(word: &str) -> u64 {
-    word.parse().unwrap_or_else(|_| fail("the file lists is of another run-real"))
+    word.parse().unwrap_or_else(|_| fail(OTHER))
 }
 
-/// The files of the builds, each read once.
-#[derive(Default)]
-struct Files(BTreeMap<String, &'static Elf>);
+/// The files of the builds by their paths, each read once.
+type Files = BTreeMap<String, &'static Elf>;
 
-impl Files {
-    fn elf(&mut self, path: &str) -> &'static Elf {
-        let read = || elf::read(&std::fs::read(path).ok()?);
-        let new =
-            || Box::leak(Box::new(read().unwrap_or_else(|| fail(&format!("no ELF file: {path}")))));
-        self.0.entry(path.to_string()).or_insert_with(|| new())
-    }
+fn file(path: &str, files: &mut Files) -> &'static Elf {
+    *files.entry(path.to_string()).or_insert_with(|| {
+        let elf = std::fs::read(path).ok().and_then(|bytes| elf::read(&bytes));
+        Box::leak(Box::new(elf.unwrap_or_else(|| fail(&format!("no ELF file: {path}")))))
+    })
 }
 
 fn row(shared: &str, files: &mut Files) -> Row {
     let words: Vec<&str> = shared.split('\t').collect();
     let [path, section, kind, table, version, size, dwarf64, base_address, table_base] = words[..]
     else {
-        fail("the file lists is of another run-real")
+        fail(OTHER)
     };
-    let elf = files.elf(path);
-    let table = files.elf(table).sections.get(".debug_addr");
+    let (elf, table) = (file(path, files), file(table, files));
+    let bytes = |elf: &'static Elf, name: &str| elf.sections.get(name).map_or(&[][..], |all| all);
     Row {
         name: format!("{path} {section}"),
         task: Task::Walk,
@@ -66,12 +65,9 @@ fn row(shared: &str, files: &mut Files) -> Row {
             "Locations" => Kind::Locations,
             _ => Kind::SplitLocations,
         },
-        section: elf
-            .sections
-            .get(section)
-            .unwrap_or_else(|| fail(&format!("{path}: no {section}"))),
+        section: bytes(elf, section),
         offset: 0,
-        table: table.map_or(&[][..], |bytes| bytes),
+        table: bytes(table, ".debug_addr"),
         table_base: number(table_base),
         base_address: number(base_address),
         version: number(version) as u16,
@@ -91,14 +87,12 @@ fn units(folder: &str) -> Vec<Unit> {
     let mut units: BTreeMap<&str, Vec<List>> = BTreeMap::new();
     for line in text.lines() {
         let words: Vec<&str> = line.rsplitn(6, '\t').collect();
-        let [refused, middle, yields, entries, offset, shared] = words[..] else {
-            fail("the file lists is of another run-real")
-        };
+        let [refused, middle, yields, entries, offset, shared] = words[..] else { fail(OTHER) };
         let [middle, yields, entries, offset] = [middle, yields, entries, offset].map(number);
         let list = List { offset, entries, yields, middle, refused: refused == "true" };
         units.entry(shared).or_default().push(list);
     }
-    let mut files = Files::default();
+    let mut files = Files::new();
     let unit = |(shared, lists): (&str, _)| Unit { row: row(shared, &mut files), lists };
     units.into_iter().map(unit).collect()
 }
@@ -374,37 +368,36 @@ fn check(units: &[Unit]) {
 
 /// Lists by the number of their ranges.
 const CLASSES: [(&str, u64, u64); 6] = [
-    ("0", 0, 0),
-    ("1", 1, 1),
-    ("2-to-4", 2, 4),
-    ("5-to-16", 5, 16),
-    ("17-to-32", 17, 32),
-    ("more", 33, u64::MAX),
+    ("of-0", 0, 0),
+    ("of-1", 1, 1),
+    ("of-2-to-4", 2, 4),
+    ("of-5-to-16", 5, 16),
+    ("of-17-to-32", 17, 32),
+    ("of-more", 33, u64::MAX),
 ];
 
 /// What a row reads: its name, and whether a list belongs to it.
-type Wanted = (String, Box<dyn Fn(&Unit, &List) -> bool>);
+type Wanted = (&'static str, Box<dyn Fn(&Unit, &List) -> bool>);
 
-fn kinds() -> Vec<Wanted> {
-    vec![
-        ("ranges".into(), Box::new(|unit, _| unit.row.kind == Kind::Ranges)),
-        ("locations".into(), Box::new(|unit, _| unit.row.kind != Kind::Ranges)),
-        ("all".into(), Box::new(|_, _| true)),
+fn kinds() -> [Wanted; 3] {
+    [
+        ("ranges", Box::new(|unit, _| unit.row.kind == Kind::Ranges)),
+        ("locations", Box::new(|unit, _| unit.row.kind != Kind::Ranges)),
+        ("all", Box::new(|_, _| true)),
     ]
 }
 
-fn classes() -> Vec<Wanted> {
-    let class = |(word, least, most)| -> Wanted {
-        (format!("of-{word}"), Box::new(move |_, list| (least..=most).contains(&list.yields)))
-    };
-    CLASSES.map(class).into()
+fn classes() -> [Wanted; 6] {
+    CLASSES.map(|(word, least, most)| -> Wanted {
+        (word, Box::new(move |_, list| (least..=most).contains(&list.yields)))
+    })
 }
 
 /// Each row with its lists and its sides.
 fn rows(units: &[Unit], mut row: impl FnMut(&str, Reading, &Pass, &mut [Run<'_>; 3])) {
-    for wanted in [kinds(), classes()] {
+    for wanted in [&kinds()[..], &classes()] {
         for (word, reading) in READINGS {
-            for (name, wanted) in &wanted {
+            for (name, wanted) in wanted {
                 let pass = Pass::new(units, reading, wanted);
                 if pass.lists > 0 {
                     row(&format!("{word}-{name}"), reading, &pass, &mut sides(reading, &pass));
@@ -414,55 +407,48 @@ fn rows(units: &[Unit], mut row: impl FnMut(&str, Reading, &Pass, &mut [Run<'_>;
     }
 }
 
+fn percent(part: f64, whole: f64) -> f64 {
+    100.0 * part / whole.max(1.0)
+}
+
 /// What was met, and how it spreads.
 fn met(units: &[Unit]) {
     let folders = units.iter().filter_map(|unit| unit.row.name.rsplit_once('/'));
     let builds: BTreeSet<&str> = folders.map(|(folder, _)| folder).collect();
-    let lists = || units.iter().flat_map(|unit| unit.lists.iter().map(move |list| (unit, list)));
-    let read = || lists().filter(|(_, list)| !list.refused);
-    let of =
-        |kind: bool| read().filter(|(unit, _)| (unit.row.kind == Kind::Ranges) == kind).count();
+    let refused = units.iter().flat_map(|unit| &unit.lists).filter(|list| list.refused).count();
+    let [ranges, locations, all] = kinds().map(|(_, wanted)| {
+        let pass = Pass::new(units, Reading::Walk, wanted);
+        (pass.lists, pass.entries)
+    });
+    let short = Pass::new(units, Reading::Coverage, |_, _| true).lists;
     println!(
-        "{} builds, {} lists: {} range lists, {} location lists, {} refused and left out; {} raw \
-         entries; {} with more than {MOST} ranges, left out of coverage and canonical list",
+        "{} builds: {} range lists with {} raw entries, {} location lists with {}; left out: \
+         {refused} refused lists, and {} with more than {MOST} ranges of coverage and canonical list",
         builds.len(),
-        lists().count(),
-        of(true),
-        of(false),
-        lists().count() - read().count(),
-        read().map(|(_, list)| list.entries).sum::<u64>(),
-        read().filter(|(_, list)| list.yields > MOST as u64).count()
+        ranges.0,
+        ranges.1,
+        locations.0,
+        locations.1,
+        all.0 - short
     );
-    println!("{:>10} {:>8} {:>8} {:>12} {:>8}", "ranges", "lists", "share", "raw entries", "share");
-    let total =
-        read().fold((0, 0), |(count, entries), (_, list)| (count + 1, entries + list.entries));
-    for (word, least, most) in CLASSES {
-        let class = read().filter(|(_, list)| (least..=most).contains(&list.yields));
-        let (count, entries) =
-            class.fold((0u64, 0u64), |(n, entries), (_, list)| (n + 1, entries + list.entries));
-        let share = |part: u64, whole: u64| 100.0 * part as f64 / whole.max(1) as f64;
+    println!("{:>12} {:>8} {:>8} {:>12} {:>8}", "ranges", "lists", "share", "raw entries", "share");
+    for (word, wanted) in classes() {
+        let Pass { lists, entries, .. } = Pass::new(units, Reading::Walk, wanted);
         println!(
-            "{word:>10} {count:>8} {:>6.1} % {entries:>12} {:>6.1} %",
-            share(count, total.0),
-            share(entries, total.1)
+            "{word:>12} {lists:>8} {:>6.1} % {entries:>12} {:>6.1} %",
+            percent(lists as f64, all.0 as f64),
+            percent(entries as f64, all.1 as f64)
         );
     }
 }
 
-fn checked(folder: &str) -> Vec<Unit> {
-    let units = units(folder);
-    if units.is_empty() {
-        fail("no list in any build");
-    }
-    check(&units);
-    units
-}
-
 pub fn table(folder: &str, settings: &Settings) {
-    let units = checked(folder);
+    let units = units(folder);
+    check(&units);
     met(&units);
     println!("{} rounds of port, one, several", settings.rounds);
     header("ns for each list");
+    let mut spent = Vec::new();
     rows(&units, |name, reading, pass, runs| {
         let measured = measure(name, pass.lists, runs, settings);
         print(&measured);
@@ -471,7 +457,18 @@ pub fn table(folder: &str, settings: &Settings) {
             let [port, one, several] = measured.times.map(|time| time * lists);
             println!("{:44} {port:8.2} {one:8.2} {several:8.2}", "  for each raw entry");
         }
+        spent.push((name.to_string(), measured.times[0] * pass.lists as f64));
     });
+    println!("share of the port's time:");
+    for (word, _) in READINGS {
+        let of = |(name, _): &&(String, f64)| name.starts_with(&format!("{word}-of-"));
+        let whole: f64 = spent.iter().filter(of).map(|(_, time)| time).sum();
+        let share = |(name, time): &(String, f64)| {
+            format!("{} {:.1} %", &name[word.len() + 1..], percent(*time, whole))
+        };
+        let shares: Vec<String> = spent.iter().filter(of).map(share).collect();
+        println!("  {word:16} {}", shares.join(", "));
+    }
 }
 
 /// As `marked` of bench.rs, each time for each list.
