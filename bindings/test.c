@@ -421,6 +421,8 @@ static void test_table_next(void) {
     HEADER(BIG_TABLE, BIG, 0, 16, DONE, 5, 4, 0, 1, 0, 12, 8, 8);
     HEADER(S("\0\xff\xff\xff\xff\0\0\0\0\0\0\0\x0c\0\x05\x08\0\x01\x02\x03\x04\x05\x06\x07\x08"), BIG, 1, 25, DONE, 5, 8,
            1, 1, 1, 12, 17, 8);
+    HEADER(S("\0\x05\0\0\0\x05\0\x01\0\xaa"), LITTLE, 1, 10, DONE, 5, 1, 0, 0, 1, 5, 9, 1);
+    HEADER(S("\0\0\0\x06\0\0\0\x05\0\x02\0\xaa\xbb"), LITTLE, 3, 13, DONE, 5, 2, 0, 0, 3, 6, 11, 2);
 #define OF_VERSION_4 S("\x08\0\0\0\x04\0\x04\0\0\0\0\0")
     HEADER(OF_VERSION_4, LITTLE, 0, 12, REFUSED(YZ_UNKNOWN_VERSION, 4));
     HEADER(OF_VERSION_4, LITTLE, 12, 12, END);

@@ -361,6 +361,8 @@ fn table_next(c: &mut Checks) {
     let wide = join(&[&[0xff; 4], &[12, 0, 0, 0, 0, 0, 0, 0, 5, 0, 8, 0], EIGHT]);
     let first = Ok((0, 12, encoding(5, 4), 8));
     c.same(headers(&join(&[TABLE, &wide])), vec![first, Ok((16, 12, dwarf64(), 32))]);
+    let odd = join(&[&[5, 0, 0, 0, 5, 0, 1, 0, 0xaa], TABLE]);
+    c.same(headers(&odd), vec![Ok((0, 5, encoding(5, 1), 8)), Ok((9, 12, encoding(5, 4), 17))]);
     c.same(headers(&[]), vec![]);
     c.same(headers(&join(&[TABLE, &TABLE[..15]])), vec![first, Err(EOF)]);
     c.same(headers(&[8, 0, 0, 0, 4, 0, 4, 0, 0, 0, 0, 0]), vec![Err(Error::UnknownVersion(4))]);

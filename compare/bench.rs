@@ -34,7 +34,7 @@ mod bench_sets;
 #[allow(dead_code)]
 mod elf;
 
-use bench_gimli::{Covering, Lists, Seeking, Walking, Writing};
+use bench_gimli::{Covering, Heading, Lists, Seeking, Walking, Writing};
 use bench_rows::{Kind, Row, Task};
 use oracle::endianity::RunTimeEndian;
 use std::hint::black_box;
@@ -51,6 +51,7 @@ fn sides(row: &Row) -> [Run<'_>; 3] {
         Task::Lookup(address) => lookups(row, address),
         Task::Coverage => coverages(row),
         Task::Canonical => canonicals(row),
+        Task::Headers => headers(row),
     }
 }
 
@@ -112,11 +113,21 @@ fn canonicals(row: &Row) -> [Run<'_>; 3] {
     ]
 }
 
+fn headers(row: &Row) -> [Run<'_>; 3] {
+    let (one, several) = (Lists::<Heading>::new(row), Lists::<RunTimeEndian>::new(row));
+    [
+        Box::new(|passes| bench_port::headers(row, passes)),
+        Box::new(move |passes| bench_gimli::headers(&one, passes)),
+        Box::new(move |passes| bench_gimli::headers(&several, passes)),
+    ]
+}
+
 /// Both sides must have read the same before anything is timed.
 fn check(row: &Row, runs: &mut [Run<'_>; 3]) {
     let lists = Lists::<RunTimeEndian>::new(row);
-    let yielded = match row.kind {
-        Kind::Ranges => bench_gimli::count_ranges(&lists),
+    let yielded = match (row.task, row.kind) {
+        (Task::Headers, _) => bench_gimli::count_headers(&lists),
+        (_, Kind::Ranges) => bench_gimli::count_ranges(&lists),
         _ => bench_gimli::count_locations(&lists),
     };
     assert_eq!(yielded, row.yields, "{}", row.name);

@@ -3,9 +3,9 @@
 //!
 //! Over `RunTimeEndian` all loops of the program share one `next`, which stays
 //! a call ("several callers"). Each of the byte orders `Walking`, `Seeking`,
-//! `Covering`, `Writing` is a `RunTimeEndian` under another name, so that its
-//! `next` has one caller and is inlined there ("one caller"); those with
-//! `Real` before are for loops over many lists.
+//! `Covering`, `Writing`, `Heading` is a `RunTimeEndian` under another name, so
+//! that its `next` has one caller and is inlined there ("one caller"); those
+//! with `Real` before are for loops over many lists.
 
 use crate::bench_rows::{Kind, Row};
 use oracle::common::{DebugAddrBase, Encoding, Format, LocationListsOffset, RangeListsOffset};
@@ -38,7 +38,7 @@ macro_rules! orders {
     };
 }
 
-orders! { Walking Seeking Covering Writing RealWalking RealSeeking RealCovering RealWriting }
+orders! { Walking Seeking Covering Writing Heading RealWalking RealSeeking RealCovering RealWriting }
 
 /// A byte order that the program chooses when it runs.
 pub trait Order: Endianity + From<RunTimeEndian> {}
@@ -221,6 +221,23 @@ fn find_location<'a, E: Order>(
     Ok(None)
 }
 
+#[inline(never)]
+pub fn headers<E: Order>(lists: &Lists<'_, E>, passes: u64) -> u64 {
+    repeat!(passes, headers_once(black_box(lists)).unwrap_or_else(|error| refused(error)))
+}
+
+/// A header is seen whole, as the port's call gives it.
+#[inline(always)]
+fn headers_once<E: Order>(lists: &Lists<'_, E>) -> Result<u64, Error> {
+    let mut headers = lists.table.headers();
+    let mut sum = 0u64;
+    while let Some(header) = headers.next()? {
+        let header = black_box(&header);
+        sum = sum.wrapping_add(header.offset().0 as u64) ^ header.length() as u64;
+    }
+    Ok(sum)
+}
+
 /// gimli's walks by the ranges that they yield.
 pub trait Yields {
     fn next_range(&mut self) -> Result<Option<Range>, Error>;
@@ -246,6 +263,16 @@ pub fn count_ranges(lists: &Lists<'_, RunTimeEndian>) -> u64 {
     let mut walk = lists.open_ranges(lists.offset).unwrap_or_else(|error| refused(error));
     let mut count = 0;
     while walk.next().unwrap_or_else(|error| refused(error)).is_some() {
+        count += 1;
+    }
+    count
+}
+
+#[inline(never)]
+pub fn count_headers(lists: &Lists<'_, RunTimeEndian>) -> u64 {
+    let mut headers = lists.table.headers();
+    let mut count = 0;
+    while headers.next().unwrap_or_else(|error| refused(error)).is_some() {
         count += 1;
     }
     count

@@ -149,6 +149,25 @@ pub fn lookup_location_once(row: &Row, encoding: &Encoding, offset: u64, address
 }
 
 #[inline(never)]
+pub fn headers(row: &Row, passes: u64) -> u64 {
+    repeat!(passes, headers_once(black_box(row)))
+}
+
+#[inline(never)]
+fn headers_once(row: &Row) -> u64 {
+    let (t, m, big_endian) = (row.table.as_ptr(), row.table.len(), row.big_endian);
+    let (mut at, mut sum) = (0, 0u64);
+    loop {
+        let next = unsafe { yz_table_next(t, m, big_endian, &mut at) };
+        match next.result {
+            DONE => sum = sum.wrapping_add(next.item.offset) ^ next.item.length,
+            END => return sum,
+            _ => refused(next.refusal),
+        }
+    }
+}
+
+#[inline(never)]
 pub fn coverage(row: &Row, made: &mut Coverage, passes: u64) -> u64 {
     let encoding = encoding(row);
     repeat!(passes, {

@@ -17,11 +17,13 @@ pub enum Task {
     Lookup(u64),
     Coverage,
     Canonical,
+    /// The headers of the address section, one after the other.
+    Headers,
 }
 
 /// A list, what its reading depends on, and the task. `yields` is how many
-/// ranges the list has, `entries` how many entries the task reads; a time is
-/// divided by it. Bytes stay until the program ends, so that rows can share
+/// ranges the list has, or tables the address section, `entries` how many
+/// entries the task reads; a time is divided by it. Bytes stay until the program ends, so that rows can share
 /// them.
 #[derive(Clone)]
 pub struct Row {
@@ -417,6 +419,40 @@ fn sets(rows: &mut Rows<'_>) {
     }
 }
 
+/// Address tables of up to three addresses, each with its header.
+fn tables(size: u8, big: bool, dwarf64: bool, count: u64) -> Vec<u8> {
+    let mut writer = Writer { out: Vec::new(), kind: Kind::Ranges, version: 5, size, big };
+    for index in 0..count {
+        let addresses = spread(index) % 4;
+        let length = 4 + addresses * u64::from(size);
+        if dwarf64 {
+            writer.fixed(0xffff_ffff, 4);
+        }
+        writer.fixed(length, if dwarf64 { 8 } else { 4 });
+        writer.fixed(5, 2);
+        writer.out.extend([size, 0]);
+        (0..addresses).for_each(|row| writer.address(span(row, size).0));
+    }
+    writer.out
+}
+
+fn headers(rows: &mut Rows<'_>) {
+    let plans = [(1, false, false), (4, false, false), (8, false, false), (8, true, false), (8, false, true)];
+    for (size, big, dwarf64) in plans {
+        let (order, format) = (order_word(big), if dwarf64 { 64 } else { 32 });
+        for count in [3, 1000] {
+            rows.add(format!("headers-{size}-{order}-{format}-{count}"), |name| Row {
+                task: Task::Headers,
+                table: tables(size, big, dwarf64, count).leak(),
+                dwarf64,
+                yields: count,
+                entries: count,
+                ..Plan::new(Kind::Ranges, Pattern::Mixed, size, big).row(name, 0..0)
+            });
+        }
+    }
+}
+
 fn growth(rows: &mut Rows<'_>) {
     let plans = [
         ("range-7", Kind::Ranges, Pattern::All(StartLength)),
@@ -438,6 +474,7 @@ pub fn rows(wanted: &dyn Fn(&str) -> bool) -> Vec<Row> {
     walks(&mut rows);
     lookups(&mut rows);
     sets(&mut rows);
+    headers(&mut rows);
     growth(&mut rows);
     rows.rows
 }

@@ -413,7 +413,12 @@ fn convert(port: &impl Port, case: &ConvertCase, met: &mut Met) -> Result<(), St
 }
 
 /// Reads all tables of a section and all their entries.
-fn tables(port: &impl Port, section: &[u8], big_endian: bool, met: &mut Met) -> Result<(), String> {
+pub fn tables(
+    port: &impl Port,
+    section: &[u8],
+    big_endian: bool,
+    met: &mut Met,
+) -> Result<(), String> {
     let mut oracle = Tables::open(section, big_endian);
     let mut place = 0;
     let mut ends = 0;

@@ -1,4 +1,5 @@
-//! Compares the port with the oracle: every short list, then the cases of as
+//! Compares the port with the oracle: every short list, headers of address
+//! tables with every size and at places of every remainder, then the cases of as
 //! many seeds as are asked for, then a case built for coverage, sheets and
 //! canonical lists for every twentieth of them. A difference is printed, the last
 //! line has their number, and the exit status is 1 where there are any.
@@ -82,6 +83,16 @@ fn run(port: &impl Added, seeds: u64, first: u64, all: bool) {
     println!("{bases} default bases, none differ");
 
     let start = Instant::now();
+    let headers = spread(u64::from(generator::TABLE_HEADERS), |index, met| {
+        let case = generator::table_header(index as u32);
+        differ::tables(port, &case.section, case.big_endian, met)
+            .map_err(|error| format!("table header {index}: {error}\n{case:x?}"))
+    });
+    print_names(&headers);
+    let (made, seconds) = (generator::TABLE_HEADERS, start.elapsed().as_secs());
+    println!("{made} table headers, {} calls, none differ, {seconds} s", headers.calls);
+
+    let start = Instant::now();
     let met = spread(seeds, |index, met| {
         let seed = first.wrapping_add(index);
         let case = generator::case(seed);
@@ -105,7 +116,8 @@ fn run(port: &impl Added, seeds: u64, first: u64, all: bool) {
         "{cases} built cases from seed {first}, {} calls, none differ, {seconds} s",
         built.calls
     );
-    println!("{} calls compared in all, 0 differences", lists.calls + bases + met.calls + built.calls);
+    let calls = lists.calls + bases + headers.calls + met.calls + built.calls;
+    println!("{calls} calls compared in all, 0 differences");
 }
 
 fn print_names(met: &Met) {

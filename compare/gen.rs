@@ -173,6 +173,38 @@ pub fn short_list(index: u32) -> ([u8; 3], usize) {
     ([[0; 3], [c, 0, 0], [b, c, 0], [a, b, c]][length], length)
 }
 
+/// How many sections `table_header` makes.
+pub const TABLE_HEADERS: u32 = 256 * 2 * 2 * 16 * 18 * 4;
+
+/// Every byte as an address size, in both orders and formats, behind a table of
+/// 0 to 15 addresses of a byte, so that the header stands at places of every
+/// remainder; 0 to 17 bytes of addresses and two bytes more, and a length that
+/// is true, one less, one more, or past the section's end.
+pub fn table_header(index: u32) -> SectionCase {
+    let mut rest = index;
+    let mut digit = |base: u32| {
+        let digit = rest % base;
+        rest /= base;
+        u64::from(digit)
+    };
+    let (size, big_endian, dwarf64) = (digit(256), digit(2) == 1, digit(2) == 1);
+    let (before, tail, length) = (digit(16), digit(18), digit(4));
+    let mut w = Writer { out: Vec::new(), big_endian };
+    w.fixed(4 + before, 4);
+    w.fixed(5, 2);
+    w.out.extend([1, 0]);
+    w.out.extend((0..before).map(|i| 0x40 + i as u8));
+    if dwarf64 {
+        w.fixed(0xffffffff, 4);
+    }
+    let length = [4 + tail, 3 + tail, 5 + tail, 7 + tail][length as usize];
+    w.fixed(length, if dwarf64 { 8 } else { 4 });
+    w.fixed(5, 2);
+    w.out.extend([size as u8, 0]);
+    w.out.extend((0..tail + 2).map(|i| 0x81 + i as u8));
+    SectionCase { section: w.out, big_endian }
+}
+
 /// How wild a list is.
 #[derive(Clone, Copy, PartialEq, Eq)]
 enum Wild {

@@ -5,16 +5,20 @@ use mathlib.Core.Bool.{Bool, true, false}
 use mathlib.Core.List.{List}
 use Prim.Native.Nat.{ℕ, _+_, _≤_}
 use native.Mathlib.Omega.{arith}
-use lib.Dec.{leb}
+use lib.Dec.{leb, ltb, eqb}
 use lib.ListN.{length, drop, length-drop, drop-of-length-le}
 use lib.Seq.{length-take-le}
 use borrow.Author.Tests.{leb-true, leb-false}
 use Rattle.bytes.specs.Read.{Result, gives, refused, got, Read, readThen}
 use Rattle.bytes.specs.Leb128.{unsigned, unsignedFrom}
-use Rattle.bytes.specs.Reader.{skip, uint, split, truncate, partOf, isSize, addressSize}
+use Rattle.bytes.specs.Common.{initialLengthSize}
+use Rattle.bytes.specs.Reader.{skip, uint, split, truncate, partOf, isSize, addressSize, initialLength}
 use Rattle.bytes.specs.declared.Span.{Span}
+use Rattle.bytes.specs.declared.UnitLength.{UnitLength}
+use Rattle.bytes.specs.declared.endianity.RunTimeEndian.{RunTimeEndian}
 use Rattle.bytes.specs.declared.endianity.RunTimeEndian.the-variants.{Little}
 use Rattle.bytes.proofs.Took.{pick-ind}
+use Rattle.bytes.proofs.ReaderTook.{uint-moves}
 use Rattle.bytes.proofs.LebTook.{unsigned-took}
 
 -- what holds of a refusal, and of all that may follow a value that was read, holds of the whole
@@ -54,15 +58,33 @@ module _ (n : ℕ) (s : List ℕ) (at : ℕ) where
   pub truncate-inside : {end c : ℕ} → truncate n s at ≡ gives (got end c) → (end ≡ at + n) × (end ≤ length s) × (c ≡ at)
   truncate-inside e = rw e at cuts
 
+-- an initial length has the bytes of its format
+module _ (endian : RunTimeEndian) (s : List ℕ) (at : ℕ) where
+  lengths : Given (λ u c. c ≡ at + initialLengthSize (u .format)) (initialLength endian s at)
+  unfolding initialLength
+  lengths =
+      then-ind (Given (λ u c. c ≡ at + initialLengthSize (u .format))) (uint endian 4 s at) _ (λ k vs. tt) (λ n c e.
+      pick-ind (Given (λ u c. c ≡ at + initialLengthSize (u .format))) (ltb n 0xfffffff0) (λ h. uint-moves endian 4 s at e) (λ h.
+      pick-ind (Given (λ u c. c ≡ at + initialLengthSize (u .format))) (eqb n 0xffffffff) (λ g.
+      then-ind (Given (λ u c. c ≡ at + initialLengthSize (u .format))) (uint endian 8 s c) _ (λ k vs. tt)
+      (λ m d z. omega (arith, uint-moves endian 4 s at e, uint-moves endian 8 s c z))) (λ g. tt)))
+
+  pub initial-moves : {u : UnitLength} {c : ℕ} → initialLength endian s at ≡ gives (got u c) → c ≡ at + initialLengthSize (u .format)
+  initial-moves e = rw e at lengths
+
 -- an address size that was read is one that is read
 module _ (s : List ℕ) (at : ℕ) where
-  sizes : Given (λ n c. isSize n ≡ true) (addressSize s at)
+  sizes : Given (λ n c. (isSize n ≡ true) × (c ≡ at + 1)) (addressSize s at)
   unfolding addressSize
   sizes =
-      then-ind (Given (λ n c. isSize n ≡ true)) (uint Little 1 s at) _ (λ k vs. tt) (λ v c e. pick-ind (Given (λ n c. isSize n ≡ true)) (isSize v) (λ h. h) (λ h. tt))
+      then-ind (Given (λ n c. (isSize n ≡ true) × (c ≡ at + 1))) (uint Little 1 s at) _ (λ k vs. tt)
+      (λ v c e. pick-ind (Given (λ n c. (isSize n ≡ true) × (c ≡ at + 1))) (isSize v) (λ h. (h, uint-moves Little 1 s at e)) (λ h. tt))
 
   pub address-size-is : {n c : ℕ} → addressSize s at ≡ gives (got n c) → isSize n ≡ true
-  address-size-is e = rw e at sizes
+  address-size-is e = (rw e at sizes) .0
+
+  pub address-size-moves : {n c : ℕ} → addressSize s at ≡ gives (got n c) → c ≡ at + 1
+  address-size-moves e = (rw e at sizes) .1
 
 -- a number that was read ends in its section, wherever the reading began
 module _ (s : List ℕ) (at : ℕ) {v c : ℕ} (e : unsigned s at ≡ gives (got v c)) where

@@ -1,3 +1,4 @@
 pub mod Cases
 pub mod CanonicalCases
+pub mod TableHeaders
 pub mod Pinned

@@ -1,17 +1,13 @@
 -- What the definitions of address tables say, case by case, and how large an address is.
-use mathlib.Core.Path.{_≡_, refl, sym, ap, subst, _∙_}
+use mathlib.Core.Path.{_≡_, ap, subst, _∙_}
 use mathlib.Core.List.{List}
-use Prim.Native.Nat.{ℕ, _+_, _-_, _*_, _%_, _^_, _≤_, _<_}
-use native.Mathlib.Nat.{mod-zero, mod-lt}
+use Prim.Native.Nat.{ℕ, _+_, _-_, _*_, _^_, _≤_, _<_}
 use native.Mathlib.Omega.{arith}
-use lib.Dec.{eqb}
-use lib.ListN.{length, getD, take}
-use lib.Seq.{length-take-le}
-use borrow.Author.Tests.{le-leb, lt-leb, eq-eqb, ne-eqb}
+use lib.ListN.{length, getD}
+use borrow.Author.Tests.{le-leb, lt-leb}
 use Rattle.bytes.specs.Read.{Result, gives, refused, got, readThen}
 use Rattle.bytes.specs.Error.{refusal, told, toldPlace}
-use Rattle.bytes.specs.Common.{initialLengthSize}
-use Rattle.bytes.specs.Reader.{skip, address, partOf}
+use Rattle.bytes.specs.Reader.{address, partOf}
 use Rattle.bytes.specs.declared.common.DebugAddrBase.{DebugAddrBase}
 use Rattle.bytes.specs.declared.common.DebugAddrIndex.{DebugAddrIndex}
 use Rattle.bytes.specs.declared.endianity.RunTimeEndian.{RunTimeEndian}
@@ -22,11 +18,10 @@ use Rattle.bytes.specs.declared.Place.{Place}
 use Rattle.bytes.specs.declared.Place.the-variants as place
 use Rattle.bytes.proofs.ReaderLaws.{at-then, no-place-then}
 use Rattle.bytes.proofs.ReaderTook.{address-took, address-lt}
-use Rattle.bytes.proofs.Took.{pick-ind}
 use Rattle.tables.specs.Header.{toldHead, head}
 use Rattle.tables.specs.Row.{rowAt}
 use Rattle.tables.specs.Next.{ends, hands}
-use Rattle.tables.specs.Addr.{addressAt, padding, tableOf, addrHeader, toldHeader, headersAt, onHeader, nextHeader, movedOn, onEntry, nextEntry}
+use Rattle.tables.specs.Addr.{addressAt, tableOf, addrHeader, toldHeader, headersAt, onHeader, nextHeader, movedOn, onEntry, nextEntry}
 use Rattle.tables.specs.declared.header.Head.{Head}
 use Rattle.tables.specs.declared.header.HeadAnswer.{HeadAnswer}
 use Rattle.tables.specs.declared.header.HeadAnswer.the-variants as answer
@@ -35,7 +30,7 @@ use Rattle.tables.specs.declared.addr.AddrHeaderAnswer.{AddrHeaderAnswer
 use Rattle.tables.specs.declared.addr.AddrHeaderAnswer.the-variants as header
 use Rattle.tables.specs.declared.addr.AddrHeaderIter.{AddrHeaderIter}
 use Rattle.tables.specs.declared.addr.AddrEntryIter.{AddrEntryIter}
-use Rattle.bytes.proofs.Inside.{then-ind, skip-inside, part-fits}
+use Rattle.bytes.proofs.Inside.{then-ind, part-fits}
 use Rattle.tables.proofs.HeaderLaws.{got-is, head-is, head-fits, head-then, no-head-then}
 
 -- the address of an index, by the place of its row
@@ -69,19 +64,6 @@ address-at-lt endian size tableBase index s b e =
     subst (Below (2 ^ (8 * size))) e (then-ind (Below (2 ^ (8 * size))) (rowAt (tableBase .0) (index .0) size s) _ (λ k vs. tt) (λ v c z.
     then-ind (Below (2 ^ (8 * size))) (address endian size s c) _ (λ k vs. tt) (λ a d y. address-lt endian size s c b y)))
 
--- the bytes that bring a header to a multiple of a size
-pub no-padding : (n size : ℕ) → size ≡ 0 → 0 ≡ padding n size
-no-padding n size z = rw (z, mod-zero) (pick-ind (λ (k : ℕ). 0 ≡ k) (eqb n 0) (λ h. refl) (λ h. omega arith))
-
-pub full-padding : (n size : ℕ) → n % size ≡ 0 → 0 ≡ padding n size
-full-padding n size z = simp (eq-eqb (n % size) 0 z)
-
-pub some-padding : (n size : ℕ) → (n % size ≡ 0 → ⊥) → size - n % size ≡ padding n size
-some-padding n size z = simp (ne-eqb (n % size) 0 z)
-
-pub over-le : (n size : ℕ) → (size ≡ 0 → ⊥) → n % size ≤ size
-over-le n size z = omega (arith, mod-lt n {m = size} (omega arith))
-
 -- a table's header, by its fields
 module _ (endian : RunTimeEndian) (s : List ℕ) (at : ℕ) {r : HeadAnswer} (p : toldHead r ≡ head endian s at) where
   pub no-head : {e : Error} → r ≡ answer.Refused e → addrHeader endian s at ≡ refusal e
@@ -89,26 +71,12 @@ module _ (endian : RunTimeEndian) (s : List ℕ) (at : ℕ) {r : HeadAnswer} (p 
   no-head q = no-head-then _ p q
 
   module _ {h : Head} {c : ℕ} (q : r ≡ answer.Got h c) where
-    pub unit-of : h .end ≡ length (take (h .end) s)
-    unit-of = sym (length-take-le (h .end) s (head-fits endian s at (head-is p q) .inside))
+    pub header-inside : c ≤ h .end
+    header-inside = head-fits endian s at (head-is p q) .before
 
-    module _ {n m : ℕ} (a : n ≡ initialLengthSize (h .format)) (b : m ≡ padding (n + 4) (h .«address_size»)) where
-      by-padding : addrHeader endian s at ≡ readThen (skip m (take (h .end) s) c) (λ _ d. gives (got (tableOf at h d) (h .end)))
-      unfolding addrHeader
-      by-padding = head-then _ p q ∙ rw (b, a)
-
-      module _ {t : Place} (k : toldPlace t ≡ skip m (take (h .end) s) c) where
-        pub padding-past : {e : Error} → t ≡ place.Refused e → addrHeader endian s at ≡ refusal e
-        padding-past w = by-padding ∙ no-place-then _ k w
-
-        module _ {d : ℕ} (w : t ≡ place.At d) where
-          pub table-inside : d ≤ h .end
-          table-inside =
-              let e : skip m (take (h .end) s) c ≡ gives (got tt d) = sym k ∙ rw w in
-              omega (arith, unit-of, skip-inside m (take (h .end) s) c e .1)
-
-          pub table-got : addrHeader endian s at ≡ gives (got (tableOf at h d) (h .end))
-          table-got = by-padding ∙ at-then _ k w
+    pub table-got : addrHeader endian s at ≡ gives (got (tableOf at h c) (h .end))
+    unfolding addrHeader
+    table-got = head-then _ p q
 
 -- the walk over headers
 module _ (endian : RunTimeEndian) (s : List ℕ) (w : AddrHeaderIter) where

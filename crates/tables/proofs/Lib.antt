@@ -1,3 +1,4 @@
 pub mod HeaderLaws
 pub mod RowLaws
 pub mod AddrLaws
+pub mod PaddedLaws

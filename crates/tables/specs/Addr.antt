@@ -1,12 +1,11 @@
 -- Address tables (DWARF 5, 7.27).
-use Prim.Native.Nat.{ℕ, _+_, _-_, _%_}
+use Prim.Native.Nat.{ℕ, _+_, _-_}
 use mathlib.Core.List.{List}
-use lib.Dec.{leb, eqb}
-use lib.ListN.{length, take}
+use lib.Dec.{leb}
+use lib.ListN.{length}
 use Rattle.bytes.specs.Read.{Result, gives, refused, got, Read, readThen, pick}
 use Rattle.bytes.specs.Error.{refusal}
-use Rattle.bytes.specs.Common.{initialLengthSize}
-use Rattle.bytes.specs.Reader.{skip, address, partOf}
+use Rattle.bytes.specs.Reader.{address, partOf}
 use Rattle.bytes.specs.declared.Span.{Span}
 use Rattle.bytes.specs.declared.common.DebugAddrBase.{DebugAddrBase}
 use Rattle.bytes.specs.declared.common.DebugAddrIndex.{DebugAddrIndex}
@@ -37,18 +36,12 @@ unfoldable pub addressAt : RunTimeEndian → ℕ → DebugAddrBase → DebugAddr
 addressAt endian size base index s =
     readThen (rowAt (base .0) (index .0) size s) (λ _ c. readThen (address endian size s c) (λ a _. gives a))
 
--- gimli's rule, from DWARF's older tables: the first address stands at a multiple of the address size
-abbrev pub padding : ℕ → ℕ → ℕ
-padding header size = pick (eqb (header % size) 0) 0 (size - header % size)
-
 abbrev pub tableOf : ℕ → Head → ℕ → AddrHeader
 tableOf at h c = record { offset = record { 0 = at }; encoding = unitEncoding h; length = h .length; entries = restOf h c }
 
--- a table's header, and the place after the table
+-- a table's header, and the place after the table: its addresses follow the header, up to the unit's end
 unfoldable pub addrHeader : RunTimeEndian → List ℕ → ℕ → Read AddrHeader
-addrHeader endian s at =
-    readThen (head endian s at) (λ h c.
-    readThen (skip (padding (initialLengthSize (h .format) + 4) (h .«address_size»)) (take (h .end) s) c) (λ _ d. gives (got (tableOf at h d) (h .end))))
+addrHeader endian s at = readThen (head endian s at) (λ h c. gives (got (tableOf at h c) (h .end)))
 
 abbrev pub toldHeader : AddrHeaderAnswer → Read AddrHeader
 toldHeader (header.Header h c) = gives (got h c)

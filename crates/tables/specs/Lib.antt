@@ -3,3 +3,4 @@ pub mod Lists
 pub mod Row
 pub mod Next
 pub mod Addr
+pub mod Padded

@@ -10,7 +10,7 @@ use bytes::common::Encoding;
 use bytes::endianity::RunTimeEndian;
 use bytes::error::Error;
 ghost use mathlib.Core.Path.{_≡_};
-ghost use Rattle.tables.specs.Addr.{toldAddress, addressAt, padding, toldHeader, addrHeader, toldNextHeader, nextHeader, entriesOf, toldNextEntry, nextEntry};
+ghost use Rattle.tables.specs.Addr.{toldAddress, addressAt, toldHeader, addrHeader, toldNextHeader, nextHeader, entriesOf, toldNextEntry, nextEntry};
 
 pub enum AddressAnswer {
     Address(u64),
@@ -51,22 +51,7 @@ pub enum AddrHeaderAnswer {
     Refused(Error),
 }
 
-// How many bytes bring a header's length to a multiple of the address size.
-fn padding_of(header_length: u64, address_size: u8) -> u64
-    ensures { λ r. ⌜ r ≡ padding «header_length» «address_size» ⌝ }
-{
-    let tuple_length = address_size as u64;
-    if tuple_length == 0 {
-        return 0;
-    }
-    let over = header_length % tuple_length;
-    if over == 0 {
-        return 0;
-    }
-    tuple_length - over
-}
-
-// The header at a place: the refusals of the fields, then 1 for the padding.
+// The header at a place: the refusals of its fields. The addresses follow it.
 pub fn parse_header(debug_addr: &[u8], at: usize, endian: RunTimeEndian) -> AddrHeaderAnswer
     ensures { λ r. ⌜ toldHeader r ≡ addrHeader endian (now («debug_addr» .entry)) at ⌝ }
 {
@@ -74,31 +59,22 @@ pub fn parse_header(debug_addr: &[u8], at: usize, endian: RunTimeEndian) -> Addr
         HeadAnswer::Refused(e) => AddrHeaderAnswer::Refused(e),
         HeadAnswer::Got(head, c) => {
             let end = head.end;
+            let len = end - c;
             let format = head.format;
-            let header_length = (format.initial_length_size() as u64) + 4;
-            let padding = padding_of(header_length, head.address_size);
-            match bytes::reader::skip(&debug_addr[..end], c, padding) {
-                Place::Refused(e) => AddrHeaderAnswer::Refused(e),
-                Place::At(d) => {
-                    let encoding = Encoding {
-                        address_size: head.address_size,
-                        format,
-                        version: 5,
-                    };
-                    AddrHeaderAnswer::Header(
-                        AddrHeader {
-                            offset: DebugAddrOffset(at as u64),
-                            encoding,
-                            length: head.length,
-                            entries: Span {
-                                offset: d,
-                                len: end - d,
-                            },
-                        },
-                        end,
-                    )
-                }
-            }
+            let encoding = Encoding {
+                address_size: head.address_size,
+                format,
+                version: 5,
+            };
+            AddrHeaderAnswer::Header(
+                AddrHeader {
+                    offset: DebugAddrOffset(at as u64),
+                    encoding,
+                    length: head.length,
+                    entries: Span { offset: c, len },
+                },
+                end,
+            )
         }
     }
 }

@@ -1,6 +1,7 @@
 // The examples of docs/SCOPE.md through the public functions of bytes, tables and entries. The file stdout has the answers as that
 // page gives them.
 mod examples;
+mod headers;
 mod nothing;
 mod rows;
 mod show;
@@ -20,6 +21,10 @@ fn refusals() {
 
 fn good() {
     examples::table();
+    headers::sizes();
+    headers::wide();
+    headers::placed();
+    headers::refused();
     examples::offsets();
     examples::numbers();
     examples::orders();

@@ -3,6 +3,8 @@ use bytes::InitialLength;
 use bytes::Num;
 use bytes::Place;
 use bytes::Split;
+use bytes::common::Encoding;
+use bytes::common::Format;
 use bytes::error::Error;
 use entries::Expression;
 use entries::LocationStep;
@@ -147,13 +149,24 @@ pub(crate) fn location_offset(label: &[u8], r: LocationOffsetAnswer) {
     end_line();
 }
 
+fn bits(encoding: Encoding) -> u64 {
+    let format = encoding.format;
+    match format {
+        Format::Dwarf32 => 32,
+        Format::Dwarf64 => 64,
+    }
+}
+
 pub(crate) fn table_header(label: &[u8], r: AddrHeaderAnswer) {
     say(label);
     match r {
         AddrHeaderAnswer::Header(h, c) => {
+            let offset = h.offset;
             let encoding = h.encoding;
             let entries = h.entries;
+            field(b" offset", offset.0);
             field(b" length", h.length);
+            field(b" format", bits(encoding));
             field(b" size", encoding.address_size as u64);
             field(b" entries", entries.offset as u64);
             put(entries.len as u64);
