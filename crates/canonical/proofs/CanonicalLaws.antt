@@ -147,13 +147,13 @@ module _ (format : Format) (s : List ℕ) (table : DebugAddrIndex → Result ℕ
   unfolding canonicalBytes
   walked-from [] small at d =
       let h = inside [] at d in
-      met-end (ranges (canonicalEncoding format) Little s) table 8 (length s) moves at base h
+      met-end (ranges (canonicalEncoding format) Little s) table 8 (length s) moves (walkAt at base) h
       (raw-there (rangeEntry (canonicalEncoding format) Little) s at h ∙ ap (λ (l : List ℕ). moved at (rangeEntry (canonicalEncoding format) Little l)) d ∙ ap (moved at) (end-back format))
   walked-from (r ∷ rs) small at d =
       let h = inside (r ∷ rs) at d in
       let c = at + length (entryBytes r) in
       let rest : drop c s ≡ canonicalBytes rs = sym (drop-drop (length (entryBytes r)) at s) ∙ ap (drop (length (entryBytes r))) d ∙ drop-append-seam (entryBytes r) (canonicalBytes rs) in
-      met-entry (ranges (canonicalEncoding format) Little s) table 8 (length s) moves at base h
+      met-entry (ranges (canonicalEncoding format) Little s) table 8 (length s) moves (walkAt at base) h
       (read-entry at r (canonicalBytes rs) (small .0) h d) (turn-back table base (r .0) (r .1) (small .0))
       ∙ ap (handed (gives (item (r .0) (r .1) tt)) (walkAt c base)) (walked-from rs (small .1) c rest)
 

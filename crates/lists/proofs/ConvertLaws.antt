@@ -22,7 +22,7 @@ use Rattle.entries.specs.declared.RawRngListEntry.{RawRngListEntry}
 use Rattle.entries.specs.declared.RawRngListEntry.the-variants.{StartLength}
 use Rattle.entries.specs.Told.{found, ended, stepOf}
 use Rattle.entries.proofs.StepLaws.{step-found, step-ended, step-failed}
-use Rattle.lists.specs.Open.{walkAt, opened, sectionFor}
+use Rattle.lists.specs.Open.{walkAt, movedTo, opened, sectionFor}
 use Rattle.lists.specs.Convert.{Turn, range, skip, toldUnchecked, bounded, offsets, passedOf, convert}
 use Rattle.lists.specs.Walk.{Listing, onRaw, nextRaw, outcome, converted, comes}
 use Rattle.lists.specs.declared.Walk.{Walk}
@@ -83,7 +83,7 @@ module _ {A : Type 0} (encoding : Encoding) (older newer : A) where
 
 -- a raw call
 module _ (l : Listing) (size len : ℕ) (w : Walk) where
-  pub raw-other : isSize size ≡ false → nextRaw l size len w ≡ hands (refusal (UnsupportedAddressSize size)) (walkAt len (w .«base_address»))
+  pub raw-other : isSize size ≡ false → nextRaw l size len w ≡ hands (refusal (UnsupportedAddressSize size)) (movedTo len w)
   unfolding nextRaw
   raw-other h = simp h
 
@@ -92,18 +92,18 @@ module _ (l : Listing) (size len : ℕ) (w : Walk) where
     unfolding nextRaw
     raw-over k = simp (h, le-leb _ _ k)
 
-    raw-is : w .at < len → (r : Read (Raw (l .Entry))) → l .read (w .at) ≡ r → nextRaw l size len w ≡ onRaw len (w .«base_address») r
+    raw-is : w .at < len → (r : Read (Raw (l .Entry))) → l .read (w .at) ≡ r → nextRaw l size len w ≡ onRaw len w r
     unfolding nextRaw
     raw-is k r q = simp (h, lt-leb _ _ k, q)
 
     module _ (k : w .at < len) where
-      pub raw-entry : {e : l .Entry} {c : ℕ} → gives (found e c) ≡ stepOf (l .read (w .at)) → nextRaw l size len w ≡ hands (gives e) (walkAt c (w .«base_address»))
+      pub raw-entry : {e : l .Entry} {c : ℕ} → gives (found e c) ≡ stepOf (l .read (w .at)) → nextRaw l size len w ≡ hands (gives e) (movedTo c w)
       raw-entry q = raw-is k _ (step-found (l .read (w .at)) q)
 
-      pub raw-end : gives ended ≡ stepOf (l .read (w .at)) → nextRaw l size len w ≡ ends (walkAt len (w .«base_address»))
+      pub raw-end : gives ended ≡ stepOf (l .read (w .at)) → nextRaw l size len w ≡ ends (movedTo len w)
       raw-end q = raw-is k _ (step-ended (l .read (w .at)) q .1)
 
-      pub raw-failed : {n : ℕ} {vs : List ℕ} → refused n vs ≡ stepOf (l .read (w .at)) → nextRaw l size len w ≡ hands (refused n vs) (walkAt len (w .«base_address»))
+      pub raw-failed : {n : ℕ} {vs : List ℕ} → refused n vs ≡ stepOf (l .read (w .at)) → nextRaw l size len w ≡ hands (refused n vs) (movedTo len w)
       raw-failed q = raw-is k _ (step-failed (l .read (w .at)) q)
 
 -- a conversion under a walk, by the answer of the conversion

@@ -15,6 +15,13 @@ use Rattle.lists.specs.declared.Opened.the-variants as answer
 abbrev pub walkAt : ℕ → ℕ → Walk
 walkAt at base = record { at = at; «base_address» = base }
 
+-- a walk that goes on from a place, and one whose base address is replaced: nothing else ever happens to a walk
+abbrev pub movedTo : ℕ → Walk → Walk
+movedTo at w = walkAt at (w .«base_address»)
+
+abbrev pub rebased : ℕ → Walk → Walk
+rebased base w = walkAt (w .at) base
+
 -- an offset at the section's end opens an empty list; the address size is looked at first
 unfoldable pub opened : Encoding → List ℕ → ℕ → ℕ → Result Walk
 opened encoding s offset base =

@@ -18,7 +18,7 @@ use Rattle.entries.specs.Listed.{EntryIn, entryIn, readIn}
 use Rattle.entries.specs.declared.Expression.{Expression}
 use Rattle.entries.specs.declared.RawRngListEntry.{RawRngListEntry}
 use Rattle.entries.specs.declared.RawLocListEntry.{RawLocListEntry}
-use Rattle.lists.specs.Open.{walkAt}
+use Rattle.lists.specs.Open.{movedTo, rebased}
 use Rattle.lists.specs.Convert.{Turn, range, rebase, skip, convert, tableAt, bounds, expressionOf}
 use Rattle.lists.specs.declared.Walk.{Walk}
 use Rattle.lists.specs.declared.rnglists.RawRangeAnswer.{RawRangeAnswer}
@@ -74,27 +74,26 @@ pub data Trace (D : Type 0) : Type 0 where
   over : Walk → Trace D
   handed : Result (Item D) → Walk → Trace D → Trace D
 
--- what an entry that ends at c comes to; a failed lookup leaves base and place to go on from
-abbrev pub onTurn : {D : Type 0} → Result Turn → D → ℕ → ℕ → (ℕ → ℕ → Trace D) → Trace D
-onTurn (gives (range b e)) d c base go = handed (gives (item b e d)) (walkAt c base) (go c base)
-onTurn (gives (rebase b)) d c base go = go c b
-onTurn (gives skip) d c base go = go c base
-onTurn (refused n vs) d c base go = handed (refused n vs) (walkAt c base) (go c base)
+-- what an entry comes to, by the walk behind it, from which the list goes on; a failed lookup is handed out in an item's place
+abbrev pub onTurn : {D : Type 0} → Result Turn → D → Walk → (Walk → Trace D) → Trace D
+onTurn (gives (range b e)) d w go = handed (gives (item b e d)) w (go w)
+onTurn (gives (rebase b)) d w go = go (rebased b w)
+onTurn (gives skip) d w go = go w
+onTurn (refused n vs) d w go = handed (refused n vs) w (go w)
 
 -- a raw refusal and the end mark empty the walk: its place is then the section's length
-abbrev pub onRead : (l : Listing) → (DebugAddrIndex → Result ℕ) → ℕ → ℕ → ℕ → Read (Raw (l .Entry)) → (ℕ → ℕ → Trace (l .Carried)) → Trace (l .Carried)
-onRead l table size len base (gives (got (entry e) c)) go = onTurn (convert table size base (l .boundsOf e)) (l .carried e) c base go
-onRead l table size len base (gives (got stop c)) go = over (walkAt len base)
-onRead l table size len base (refused n vs) go = handed (refused n vs) (walkAt len base) (over (walkAt len base))
+abbrev pub onRead : (l : Listing) → (DebugAddrIndex → Result ℕ) → ℕ → ℕ → Walk → Read (Raw (l .Entry)) → (Walk → Trace (l .Carried)) → Trace (l .Carried)
+onRead l table size len w (gives (got (entry e) c)) go = onTurn (convert table size (w .«base_address») (l .boundsOf e)) (l .carried e) (movedTo c w) go
+onRead l table size len w (gives (got stop c)) go = over (movedTo len w)
+onRead l table size len w (refused n vs) go = handed (refused n vs) (movedTo len w) (over (movedTo len w))
 
--- from a place on, at most n entries: each takes a byte at least, so as many as there are bytes are enough
-unfoldable pub traceFrom : (l : Listing) → (DebugAddrIndex → Result ℕ) → ℕ → ℕ → ℕ → ℕ → ℕ → Trace (l .Carried)
-traceFrom l table size len zero at base = over (walkAt at base)
-traceFrom l table size len (suc n) at base =
-    pick (leb len at) (over (walkAt at base)) (onRead l table size len base (l .read at) (traceFrom l table size len n))
+-- from a walk on, at most n entries: each takes a byte at least, so as many as there are bytes are enough
+unfoldable pub traceFrom : (l : Listing) → (DebugAddrIndex → Result ℕ) → ℕ → ℕ → ℕ → Walk → Trace (l .Carried)
+traceFrom l table size len zero w = over w
+traceFrom l table size len (suc n) w = pick (leb len (w .at)) (over w) (onRead l table size len w (l .read (w .at)) (traceFrom l table size len n))
 
 unfoldable pub trace : (l : Listing) → (DebugAddrIndex → Result ℕ) → ℕ → ℕ → Walk → Trace (l .Carried)
-trace l table size len w = traceFrom l table size len len (w .at) (w .«base_address»)
+trace l table size len w = traceFrom l table size len len w
 
 -- a call hands out what the list does first
 abbrev pub first : {D : Type 0} → Trace D → Next (Item D) Walk
@@ -104,19 +103,19 @@ first (handed r w t) = hands r w
 -- other sizes are refused before all else, and the walk is emptied
 unfoldable pub next : (l : Listing) → (DebugAddrIndex → Result ℕ) → ℕ → ℕ → Walk → Next (Item (l .Carried)) Walk
 next l table size len w =
-    pick (isSize size) (first (trace l table size len w)) (hands (refusal (UnsupportedAddressSize size)) (walkAt len (w .«base_address»)))
+    pick (isSize size) (first (trace l table size len w)) (hands (refusal (UnsupportedAddressSize size)) (movedTo len w))
 
 -- the raw entry of a call
-abbrev pub onRaw : {E : Type 0} → ℕ → ℕ → Read (Raw E) → Next E Walk
-onRaw len base (gives (got (entry e) c)) = hands (gives e) (walkAt c base)
-onRaw len base (gives (got stop c)) = ends (walkAt len base)
-onRaw len base (refused n vs) = hands (refused n vs) (walkAt len base)
+abbrev pub onRaw : {E : Type 0} → ℕ → Walk → Read (Raw E) → Next E Walk
+onRaw len w (gives (got (entry e) c)) = hands (gives e) (movedTo c w)
+onRaw len w (gives (got stop c)) = ends (movedTo len w)
+onRaw len w (refused n vs) = hands (refused n vs) (movedTo len w)
 
 unfoldable pub nextRaw : (l : Listing) → ℕ → ℕ → Walk → Next (l .Entry) Walk
 nextRaw l size len w =
     pick (isSize size)
-    (pick (leb len (w .at)) (ends w) (onRaw len (w .«base_address») (l .read (w .at))))
-    (hands (refusal (UnsupportedAddressSize size)) (walkAt len (w .«base_address»)))
+    (pick (leb len (w .at)) (ends w) (onRaw len w (l .read (w .at))))
+    (hands (refusal (UnsupportedAddressSize size)) (movedTo len w))
 
 -- what a raw entry comes to under a walk: an item or a refusal, or nothing; and the walk then
 pub data Outcome (D : Type 0) : Type 0 where
@@ -125,7 +124,7 @@ pub data Outcome (D : Type 0) : Type 0 where
 
 abbrev pub outcome : {D : Type 0} → Walk → D → Result Turn → Outcome D
 outcome w d (gives (range b e)) = comes (gives (item b e d)) w
-outcome w d (gives (rebase b)) = nothing (walkAt (w .at) b)
+outcome w d (gives (rebase b)) = nothing (rebased b w)
 outcome w d (gives skip) = nothing w
 outcome w d (refused n vs) = comes (refused n vs) w
 

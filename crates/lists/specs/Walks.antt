@@ -12,7 +12,7 @@ use Rattle.tables.specs.Next.{Next, ends, hands}
 use Rattle.entries.specs.Forms.{entry}
 use Rattle.entries.specs.declared.RawLocListEntry.{RawLocListEntry}
 use Rattle.entries.specs.declared.RawLocListEntry.the-variants as loc
-use Rattle.lists.specs.Open.{walkAt}
+use Rattle.lists.specs.Open.{movedTo}
 use Rattle.lists.specs.Convert.{convert}
 use Rattle.lists.specs.Walk.{Listing, Item, item, Trace, over, trace, next, nextRaw, handed}
 use Rattle.lists.specs.declared.Walk.{Walk}
@@ -33,12 +33,12 @@ pub record EveryWalk (l : Listing) (table : DebugAddrIndex → Result ℕ) (size
   -- it hands out exactly what the list does, one call at a time, and then the end for ever
   pub hands-out : (w : Walk) → Hands l table size len (trace l table size len w)
   -- a failed lookup loses nothing else: the base stays, and the walk goes on after the entry
-  pub lookup-failed : (at base : ℕ) → at < len → {e : l .Entry} {c n : ℕ} {vs : List ℕ}
-      → l .read at ≡ gives (got (entry e) c) → refused n vs ≡ convert table size base (l .boundsOf e)
-      → trace l table size len (walkAt at base) ≡ handed (refused n vs) (walkAt c base) (trace l table size len (walkAt c base))
+  pub lookup-failed : (w : Walk) → w .at < len → {e : l .Entry} {c n : ℕ} {vs : List ℕ}
+      → l .read (w .at) ≡ gives (got (entry e) c) → refused n vs ≡ convert table size (w .«base_address») (l .boundsOf e)
+      → trace l table size len w ≡ handed (refused n vs) (movedTo c w) (trace l table size len (movedTo c w))
   -- a raw refusal empties the walk, and then it is over
-  pub raw-refused : (at base : ℕ) → at < len → {n : ℕ} {vs : List ℕ} → l .read at ≡ refused n vs
-      → trace l table size len (walkAt at base) ≡ handed (refused n vs) (walkAt len base) (over (walkAt len base))
+  pub raw-refused : (w : Walk) → w .at < len → {n : ℕ} {vs : List ℕ} → l .read (w .at) ≡ refused n vs
+      → trace l table size len w ≡ handed (refused n vs) (movedTo len w) (over (movedTo len w))
   -- each raw call on a place before the section's end reads at least one byte or empties the walk
   pub raw-progress : (w : Walk) → w .at < len → Progress (w .at) len (nextRaw l size len w)
 

@@ -55,8 +55,8 @@ entry-past c = let a = c .before .before .before .before .before .before .before
 
 entry-met : (c : tie.After-convert-entry Inv-loop μ-loop) → (let a = c .before .before .before .before .before .before .before .before .before .before .before .before .before .before .args in
     does (a .locations) (a .split) (a .encoding) (a .endian) (a .section .now) (a .debug-addr .now) (a .debug-addr-base) (c .before .before .before .before .before .before .before .before .loop .at) (c .before .before .before .before .before .before .before .before .loop .base-address)
-    ≡ onTurn (toldTurn (c .convert-entry .result)) (carriedIn (a .locations) (entryIn (a .locations) (c .before .before .before .before .raw .given .0 .0))) (c .before .before .before .before .raw .given .0 .1 .0) (c .before .before .before .before .before .before .before .before .loop .base-address) (does (a .locations) (a .split) (a .encoding) (a .endian) (a .section .now) (a .debug-addr .now) (a .debug-addr-base)))
-entry-met c = met-entry _ _ _ _ (let a = c .before .before .before .before .before .before .before .before .before .before .before .before .before .before .args in listed-past (a .locations) (a .split) (a .encoding) (a .endian) (a .section .now)) _ _ (c .before .before .before .before .before .before .before .loop-test .taken) (entry-read (c .before .before .before)) (c .convert-entry .ensures ∙ ap (convert _ _ _) (c .before .before .bounds-of .ensures ∙ sym (bounds-in (c .before .before .before .before .before .before .before .before .before .before .before .before .before .before .args .locations) (c .before .before .before .before .raw .given .0 .0))))
+    ≡ onTurn (toldTurn (c .convert-entry .result)) (carriedIn (a .locations) (entryIn (a .locations) (c .before .before .before .before .raw .given .0 .0))) (walkAt (c .before .before .before .before .raw .given .0 .1 .0) (c .before .before .before .before .before .before .before .before .loop .base-address)) (λ v. trace (listed (a .locations) (a .split) (a .encoding) (a .endian) (a .section .now)) (tableAt (a .endian) (a .encoding) (a .debug-addr-base) (a .debug-addr .now)) (a .encoding .«address_size») (length (a .section .now)) v))
+entry-met c = met-entry _ _ _ _ (let a = c .before .before .before .before .before .before .before .before .before .before .before .before .before .before .args in listed-past (a .locations) (a .split) (a .encoding) (a .endian) (a .section .now)) _ (c .before .before .before .before .before .before .before .loop-test .taken) (entry-read (c .before .before .before)) (c .convert-entry .ensures ∙ ap (convert _ _ _) (c .before .before .bounds-of .ensures ∙ sym (bounds-in (c .before .before .before .before .before .before .before .before .before .before .before .before .before .before .args .locations) (c .before .before .before .before .raw .given .0 .0))))
 
 cast-size : tie.Need-cast-size Inv-loop μ-loop
 cast-size c = search needs
@@ -74,13 +74,13 @@ enum-known-e : tie.Need-enum-known-e Inv-loop μ-loop
 enum-known-e c = search needs
 
 returns : tie.Need-returns Inv-loop μ-loop
-returns c = sym (so-far (c .before .before .before .before .before) ∙ ap first (met-refusal _ _ _ _ (let a = c .before .before .before .before .before .before .before .before .before .before .before .args in listed-past (a .locations) (a .split) (a .encoding) (a .endian) (a .section .now)) _ _ (c .before .before .before .before .loop-test .taken) (step-failed _ (sym (ap (λ r. stepIn (c .before .before .before .before .before .before .before .before .before .before .before .args .locations) (toldLocation r)) (c .before .e .given .1)) ∙ c .before .before .before .raw-entry .ensures))))
+returns c = sym (so-far (c .before .before .before .before .before) ∙ ap first (met-refusal _ _ _ _ (let a = c .before .before .before .before .before .before .before .before .before .before .before .args in listed-past (a .locations) (a .split) (a .encoding) (a .endian) (a .section .now)) _ (c .before .before .before .before .loop-test .taken) (step-failed _ (sym (ap (λ r. stepIn (c .before .before .before .before .before .before .before .before .before .before .before .args .locations) (toldLocation r)) (c .before .e .given .1)) ∙ c .before .before .before .raw-entry .ensures))))
 
 enum-told : tie.Need-enum-told Inv-loop μ-loop
 enum-told c = search needs
 
 returns-2 : tie.Need-returns-2 Inv-loop μ-loop
-returns-2 c = sym (so-far (c .before .before .before .before) ∙ ap first (met-end _ _ _ _ (let a = c .before .before .before .before .before .before .before .before .before .before .args in listed-past (a .locations) (a .split) (a .encoding) (a .endian) (a .section .now)) _ _ (c .before .before .before .loop-test .taken) (step-ended _ (sym (ap (λ r. stepIn (c .before .before .before .before .before .before .before .before .before .before .args .locations) (toldLocation r)) (c .enum-told .given .1)) ∙ c .before .before .raw-entry .ensures) .1)))
+returns-2 c = sym (so-far (c .before .before .before .before) ∙ ap first (met-end _ _ _ _ (let a = c .before .before .before .before .before .before .before .before .before .before .args in listed-past (a .locations) (a .split) (a .encoding) (a .endian) (a .section .now)) _ (c .before .before .before .loop-test .taken) (step-ended _ (sym (ap (λ r. stepIn (c .before .before .before .before .before .before .before .before .before .before .args .locations) (toldLocation r)) (c .enum-told .given .1)) ∙ c .before .before .raw-entry .ensures) .1)))
 
 enum-known-raw : tie.Need-enum-known-raw Inv-loop μ-loop
 enum-known-raw c = search needs
@@ -125,7 +125,7 @@ loop-again-2 : tie.Need-loop-again-2 Inv-loop μ-loop
 loop-again-2 c = c .before .before .before .before .before .before .before .before .before .before .loop .inv ∙ entry-met (c .before .before) ∙ rw (c .enum-told2 .given .1)
 
 returns-5 : tie.Need-returns-5 Inv-loop μ-loop
-returns-5 c = sym (so-far (c .before) ∙ ap first (trace-over _ _ _ _ (let a = c .before .before .before .before .before .before .before .args in listed-past (a .locations) (a .split) (a .encoding) (a .endian) (a .section .now)) _ _ (c .loop-test .left)))
+returns-5 c = sym (so-far (c .before) ∙ ap first (trace-over _ _ _ _ (let a = c .before .before .before .before .before .before .before .args in listed-past (a .locations) (a .split) (a .encoding) (a .endian) (a .section .now)) _ (c .loop-test .left)))
 
 returns-6 : tie.Need-returns-6 Inv-loop μ-loop
 returns-6 c = sym (next-other _ _ _ _ _ (sym (c .before .is-address-size .ensures) ∙ c .if1 .left))
