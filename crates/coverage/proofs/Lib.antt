@@ -1,6 +1,7 @@
 pub mod RangeLaws
 pub mod Small
 pub mod SortLaws
+pub mod SpreadLaws
 pub mod CoveredLaws
 pub mod KeptLaws
 pub mod OutputLaws
