@@ -25,6 +25,7 @@ static void check(bool holds, int line, const char *what) {
 #define OLD_WORD UINT64_C(0xeeeeeeeeeeeeeeee)
 #define MAX UINT64_MAX
 #define TWO_TO_61 (UINT64_C(1) << 61)
+#define THIRD (UINT64_MAX / 3)
 
 /* An answer's fields in their order, 0 after the last. */
 #define FIELDS 11
@@ -110,6 +111,9 @@ static void (*volatile old)(void *, size_t) = make_old;
 /* The scope's address table, its addresses from 8 on, in both orders. */
 #define TABLE S("\x0c\0\0\0\x05\0\x04\0\x10\0\0\0\x20\0\0\0")
 #define BIG_TABLE S("\0\0\0\x0c\0\x05\x04\0\0\0\0\x10\0\0\0\x20")
+/* The same with addresses of three bytes. */
+#define TABLE_3 S("\x0a\0\0\0\x05\0\x03\0\x10\0\0\x20\0\0")
+#define BIG_TABLE_3 S("\0\0\0\x0a\0\x05\x03\0\0\0\x10\0\0\x20")
 /* A header of lists with two offsets, 8 and 10, and two lists of one byte. */
 #define LISTS S("\x12\0\0\0\x05\0\x04\0\x02\0\0\0\x08\0\0\0\x0a\0\0\0\0\0")
 #define ONE_TO_EIGHT S("\x01\x02\x03\x04\x05\x06\x07\x08")
@@ -117,10 +121,15 @@ static void (*volatile old)(void *, size_t) = make_old;
 #define NINE "\x80\x80\x80\x80\x80\x80\x80\x80\x80"
 /* 2^61 as LEB128: times 8 it is 2^64. */
 #define INDEX_2_61 "\x80\x80\x80\x80\x80\x80\x80\x80\x20"
+/* A third of 2^64 - 1 as LEB128, and one more: times 3 they are 2^64 - 1 and 2^64 + 2. */
+#define INDEX_THIRD "\xd5\xaa\xd5\xaa\xd5\xaa\xd5\xaa\x55"
+#define INDEX_PAST_THIRD "\xd6\xaa\xd5\xaa\xd5\xaa\xd5\xaa\x55"
 /* The scope's two ranges that touch, and their canonical list and sheet. */
 #define TOUCHING S("\x07\x20\0\0\0\x10\x07\x10\0\0\0\x10\0")
 #define TOUCHING_CANONICAL "\x07\x10\0\0\0\0\0\0\0\x20\0"
 #define TOUCHING_SHEET "\x01\0\x08\0\x10\0\0\0\0\0\0\0\x30\0\0\0\0\0\0"
+/* The canonical list of 030201 to 060504, whose bytes all differ. */
+#define THREE_CANONICAL "\x07\x01\x02\x03\0\0\0\0\0\x83\x86\x0c\0"
 
 static const bool LITTLE = false, BIG = true;
 static const yz_file_type MAIN = YZ_FILE_MAIN, DWO = YZ_FILE_DWO;
@@ -284,13 +293,18 @@ static void test_read_u64(void) {
 static void test_read_address(void) {
     READ(yz_read_address(ONE_TO_EIGHT, little(5, 1), 7), DONE, 8, 8);
     READ(yz_read_address(ONE_TO_EIGHT, little(5, 2), 0), DONE, 2, 0x0201);
+    READ(yz_read_address(ONE_TO_EIGHT, little(5, 3), 0), DONE, 3, 0x030201);
+    READ(yz_read_address(ONE_TO_EIGHT, big(4, 3), 5), DONE, 8, 0x060708);
     READ(yz_read_address(ONE_TO_EIGHT, big(4, 4), 4), DONE, 8, 0x05060708);
     READ(yz_read_address(ONE_TO_EIGHT, wide(BIG), 0), DONE, 8, UINT64_C(0x0102030405060708));
     READ(yz_read_address(ONE_TO_EIGHT, encoded(0, 4, true, UINT32_MAX), 4), DONE, 8, 0x05060708);
     READ(yz_read_address(ONE_TO_EIGHT, encoded(0, 4, false, 0x100), 4), DONE, 8, 0x05060708);
     READ(yz_read_address(ONE_TO_EIGHT, big(5, 4), 5), CUT_SHORT);
     READ(yz_read_address(ONE_TO_EIGHT, big(5, 1), MAX), CUT_SHORT);
-    READ(yz_read_address(ONE_TO_EIGHT, little(5, 3), 0), BAD_SIZE(3));
+    READ(yz_read_address(ONE_TO_EIGHT, little(5, 3), 6), CUT_SHORT);
+    READ(yz_read_address(ONE_TO_EIGHT, big(5, 3), MAX - 1), CUT_SHORT);
+    READ(yz_read_address(NO_BYTES, big(5, 3), 0), CUT_SHORT);
+    READ(yz_read_address(ONE_TO_EIGHT, little(5, 5), 0), BAD_SIZE(5));
     READ(yz_read_address(NO_BYTES, little(5, 255), MAX), BAD_SIZE(255));
     READ(yz_read_address(NO_BYTES, little(5, 0), 0), BAD_SIZE(0));
 }
@@ -298,7 +312,10 @@ static void test_read_address(void) {
 static void test_read_address_size(void) {
     READ(yz_read_address_size(S("\x01\x02\x04\x08"), 0), DONE, 1, 1);
     READ(yz_read_address_size(S("\x01\x02\x04\x08"), 3), DONE, 4, 8);
-    READ(yz_read_address_size(S("\x03"), 0), BAD_SIZE(3));
+    READ(yz_read_address_size(ONE_TO_EIGHT, 2), DONE, 3, 3);
+    READ(yz_read_address_size(ONE_TO_EIGHT, 4), BAD_SIZE(5));
+    READ(yz_read_address_size(ONE_TO_EIGHT, 5), BAD_SIZE(6));
+    READ(yz_read_address_size(ONE_TO_EIGHT, 6), BAD_SIZE(7));
     READ(yz_read_address_size(S("\0"), 0), BAD_SIZE(0));
     READ(yz_read_address_size(S("\x08"), 1), CUT_SHORT);
     READ(yz_read_address_size(S("\x08"), MAX), CUT_SHORT);
@@ -307,7 +324,7 @@ static void test_read_address_size(void) {
 
 static void test_read_offset(void) {
     READ(yz_read_offset(ONE_TO_EIGHT, little(5, 8), 4), DONE, 8, 0x08070605);
-    READ(yz_read_offset(ONE_TO_EIGHT, encoded(0, 3, true, BIG), 0), DONE, 8, UINT64_C(0x0102030405060708));
+    READ(yz_read_offset(ONE_TO_EIGHT, encoded(0, 5, true, BIG), 0), DONE, 8, UINT64_C(0x0102030405060708));
     READ(yz_read_offset(ONE_TO_EIGHT, little(5, 8), 5), CUT_SHORT);
     READ(yz_read_offset(ONE_TO_EIGHT, wide(LITTLE), 1), CUT_SHORT);
     READ(yz_read_offset(ONE_TO_EIGHT, little(5, 8), MAX), CUT_SHORT);
@@ -361,6 +378,8 @@ static void test_wrapping_add_sized(void) {
     CHECK(yz_wrapping_add_sized(0xffffff00, 0x110, 4) == 0x10);
     CHECK(yz_wrapping_add_sized(0xf0, 0x20, 1) == 0x10);
     CHECK(yz_wrapping_add_sized(1, 2, 2) == 3);
+    CHECK(yz_wrapping_add_sized(0xffff00, 0x110, 3) == 0x10);
+    CHECK(yz_wrapping_add_sized(0xfffffffe, 1, 3) == 0xffffff);
     CHECK(yz_wrapping_add_sized(MAX, 1, 8) == 0);
     CHECK(yz_wrapping_add_sized(MAX, MAX, 8) == MAX - 1);
     CHECK(yz_wrapping_add_sized(MAX, 1, 0) == 0);
@@ -370,6 +389,7 @@ static void test_wrapping_add_sized(void) {
 static void test_min_tombstone(void) {
     CHECK(yz_min_tombstone(1) == 0xfe);
     CHECK(yz_min_tombstone(2) == 0xfffe);
+    CHECK(yz_min_tombstone(3) == 0xfffffe);
     CHECK(yz_min_tombstone(4) == 0xfffffffe);
     CHECK(yz_min_tombstone(8) == MAX - 1);
     CHECK(yz_min_tombstone(0) == 0);
@@ -380,6 +400,7 @@ static void test_ones_sized(void) {
     CHECK(yz_ones_sized(0) == 0);
     CHECK(yz_ones_sized(1) == 0xff);
     CHECK(yz_ones_sized(2) == 0xffff);
+    CHECK(yz_ones_sized(3) == 0xffffff);
     CHECK(yz_ones_sized(4) == 0xffffffff);
     CHECK(yz_ones_sized(8) == MAX);
     CHECK(yz_ones_sized(255) == MAX);
@@ -402,7 +423,17 @@ static void test_get_address(void) {
     ADDRESS(TABLE, 0, little(5, 8), TWO_TO_61, TOO_FAR);
     ADDRESS(TABLE, 0, little(5, 255), MAX, TOO_FAR);
     ADDRESS(TABLE, 0, little(5, 1), MAX, CUT_SHORT);
-    ADDRESS(TABLE, 8, little(5, 3), 0, BAD_SIZE(3));
+    ADDRESS(TABLE_3, 8, little(5, 3), 0, DONE, 0x10);
+    ADDRESS(TABLE_3, 8, little(5, 3), 1, DONE, 0x20);
+    ADDRESS(BIG_TABLE_3, 8, big(4, 3), 1, DONE, 0x20);
+    ADDRESS(ONE_TO_EIGHT, 2, little(5, 3), 1, DONE, 0x080706);
+    ADDRESS(ONE_TO_EIGHT, 2, big(5, 3), 1, DONE, 0x060708);
+    ADDRESS(TABLE_3, 8, little(5, 3), 2, CUT_SHORT);
+    ADDRESS(ONE_TO_EIGHT, 0, big(5, 3), 2, CUT_SHORT);
+    ADDRESS(NO_BYTES, 0, little(5, 3), THIRD, CUT_SHORT);
+    ADDRESS(NO_BYTES, 0, little(5, 3), THIRD + 1, TOO_FAR);
+    ADDRESS(TABLE_3, 0, little(5, 3), THIRD + 1, TOO_FAR);
+    ADDRESS(TABLE, 8, little(5, 5), 0, BAD_SIZE(5));
     ADDRESS(NO_BYTES, 0, little(5, 0), MAX, BAD_SIZE(0));
     ADDRESS(NO_BYTES, 0, little(5, 4), 0, CUT_SHORT);
 }
@@ -423,11 +454,17 @@ static void test_table_next(void) {
            1, 1, 1, 12, 17, 8);
     HEADER(S("\0\x05\0\0\0\x05\0\x01\0\xaa"), LITTLE, 1, 10, DONE, 5, 1, 0, 0, 1, 5, 9, 1);
     HEADER(S("\0\0\0\x06\0\0\0\x05\0\x02\0\xaa\xbb"), LITTLE, 3, 13, DONE, 5, 2, 0, 0, 3, 6, 11, 2);
+    HEADER(TABLE_3, LITTLE, 0, 14, DONE, 5, 3, 0, 0, 0, 10, 8, 6);
+    HEADER(TABLE_3, LITTLE, 14, 14, END);
+    HEADER(BIG_TABLE_3, BIG, 0, 14, DONE, 5, 3, 0, 1, 0, 10, 8, 6);
+    HEADER(S("\xff\xff\xff\xff\x0a\0\0\0\0\0\0\0\x05\0\x03\0\x10\0\0\x20\0\0"), LITTLE, 0, 22, DONE, 5, 3, 1, 0,
+           0, 10, 16, 6);
+    HEADER(S("\0\x09\0\0\0\x05\0\x03\0\x10\0\0\x20\0"), LITTLE, 1, 14, DONE, 5, 3, 0, 0, 1, 9, 9, 5);
 #define OF_VERSION_4 S("\x08\0\0\0\x04\0\x04\0\0\0\0\0")
     HEADER(OF_VERSION_4, LITTLE, 0, 12, REFUSED(YZ_UNKNOWN_VERSION, 4));
     HEADER(OF_VERSION_4, LITTLE, 12, 12, END);
 #undef OF_VERSION_4
-    HEADER(S("\x04\0\0\0\x05\0\x03\0"), LITTLE, 0, 8, BAD_SIZE(3));
+    HEADER(S("\x04\0\0\0\x05\0\x05\0"), LITTLE, 0, 8, BAD_SIZE(5));
     HEADER(S("\x04\0\0\0\x05\0\x04\x01"), LITTLE, 0, 8, REFUSED(YZ_UNSUPPORTED_SEGMENT_SIZE, 1));
     HEADER(S("\xf0\xff\xff\xff"), LITTLE, 0, 4, REFUSED(YZ_UNKNOWN_RESERVED_LENGTH, 0xfffffff0));
     HEADER(S("\x05\0\0\0\x05\0\x04\0"), LITTLE, 0, 8, CUT_SHORT);
@@ -450,7 +487,14 @@ static void test_table_entry_next(void) {
     ENTRY(BIG_TABLE, big(5, 4), 12, 4, 16, 0, DONE, 0x20);
     ENTRY(TABLE, little(5, 8), 8, 6, 14, 0, CUT_SHORT);
     ENTRY(TABLE, little(5, 8), 14, 0, 14, 0, END);
-    ENTRY(TABLE, little(5, 3), 8, 8, 16, 0, BAD_SIZE(3));
+    ENTRY(TABLE_3, little(5, 3), 8, 6, 11, 3, DONE, 0x10);
+    ENTRY(TABLE_3, little(5, 3), 11, 3, 14, 0, DONE, 0x20);
+    ENTRY(TABLE_3, little(5, 3), 14, 0, 14, 0, END);
+    ENTRY(BIG_TABLE_3, big(5, 3), 11, 3, 14, 0, DONE, 0x20);
+    ENTRY(ONE_TO_EIGHT, little(5, 3), 1, 7, 4, 4, DONE, 0x040302);
+    ENTRY(ONE_TO_EIGHT, big(5, 3), 1, 7, 4, 4, DONE, 0x020304);
+    ENTRY(ONE_TO_EIGHT, little(5, 3), 3, 2, 5, 0, CUT_SHORT);
+    ENTRY(TABLE, little(5, 5), 8, 8, 16, 0, BAD_SIZE(5));
     ENTRY(TABLE, little(5, 4), MAX, 2, MAX, 2, END);
     ENTRY(TABLE, little(5, 4), 0, MAX, 0, MAX, END);
     ENTRY(NO_BYTES, little(5, 4), 0, 0, 0, 0, END);
@@ -465,8 +509,11 @@ static void test_lists_header(void) {
     LISTS_HEADER(S("\xff\xff\xff\xff\x09\0\0\0\0\0\0\0\x05\0\x08\0\x03\0\0\0\xaa\xbb"), LITTLE, 0, DONE, 5, 8, 1, 0, 3, 20,
                  20, 1);
     LISTS_HEADER(S("\x08\0\0\0\x05\0\x02\0\xff\xff\xff\xff"), LITTLE, 0, DONE, 5, 2, 0, 0, 0xffffffff, 12, 12, 0);
+    LISTS_HEADER(S("\x08\0\0\0\x05\0\x03\0\0\0\0\0"), LITTLE, 0, DONE, 5, 3, 0, 0, 0, 12, 12, 0);
+    LISTS_HEADER(S("\xff\xff\xff\xff\0\0\0\0\0\0\0\x09\0\x05\x03\0\0\0\0\x01\xaa"), BIG, 0, DONE, 5, 3, 1, 1, 1, 20,
+                 20, 1);
     LISTS_HEADER(S("\x08\0\0\0\x04\0\x04\0\0\0\0\0"), LITTLE, 0, REFUSED(YZ_UNKNOWN_VERSION, 4));
-    LISTS_HEADER(S("\x08\0\0\0\x05\0\x03\0\0\0\0\0"), LITTLE, 0, BAD_SIZE(3));
+    LISTS_HEADER(S("\x08\0\0\0\x05\0\x05\0\0\0\0\0"), LITTLE, 0, BAD_SIZE(5));
     LISTS_HEADER(S("\x08\0\0\0\x05\0\x04\x01\0\0\0\0"), LITTLE, 0, REFUSED(YZ_UNSUPPORTED_SEGMENT_SIZE, 1));
     LISTS_HEADER(S("\xf0\xff\xff\xff"), LITTLE, 0, REFUSED(YZ_UNKNOWN_RESERVED_LENGTH, 0xfffffff0));
     LISTS_HEADER(S("\x07\0\0\0\x05\0\x04\0\0\0\0\0"), LITTLE, 0, CUT_SHORT);
@@ -483,7 +530,7 @@ typedef yz_number get_offset(const uint8_t *, size_t, uint64_t, yz_encoding, uin
 static void get_offsets(get_offset *get) {
     OFFSET(LISTS, 12, little(5, 4), 0, DONE, 20);
     OFFSET(LISTS, 12, little(5, 4), 1, DONE, 22);
-    OFFSET(LISTS, 12, little(5, 3), 1, DONE, 22);
+    OFFSET(LISTS, 12, little(5, 5), 1, DONE, 22);
     OFFSET(LISTS, 12, little(5, 4), 2, CUT_SHORT);
     OFFSET(ONE_TO_EIGHT, 0, big(5, 4), 1, DONE, 0x05060708);
     OFFSET(ONE_TO_EIGHT, 0, wide(BIG), 0, DONE, UINT64_C(0x0102030405060708));
@@ -502,7 +549,7 @@ typedef uint64_t default_base(yz_encoding, yz_file_type);
 
 static void default_bases(default_base *base) {
     CHECK(base(little(5, 4), DWO) == 12);
-    CHECK(base(big(5, 3), DWO) == 12);
+    CHECK(base(big(5, 5), DWO) == 12);
     CHECK(base(wide(LITTLE), DWO) == 20);
     CHECK(base(encoded(65535, 4, true, LITTLE), DWO) == 20);
     CHECK(base(wide(LITTLE), MAIN) == 0);
@@ -564,10 +611,12 @@ static void test_range_open(void) {
     OPENS(yz_range_open(S("abc"), little(5, 4), 2, 7, &walk), 2, 7, 0);
     OPENS(yz_range_open(S("abc"), encoded(2, 8, true, BIG), 3, MAX, &walk), 3, MAX, 0);
     OPENS(yz_range_open(NO_BYTES, little(5, 1), 0, 0, &walk), 0, 0, 0);
+    OPENS(yz_range_open(S("abc"), big(4, 3), 2, 7, &walk), 2, 7, 0);
+    REFUSES_OPENING(yz_range_open(NO_BYTES, little(5, 3), 1, 0, &walk), CUT_SHORT);
     REFUSES_OPENING(yz_range_open(NO_BYTES, little(4, 2), 1, 0, &walk), CUT_SHORT);
     REFUSES_OPENING(yz_range_open(S("abc"), little(5, 4), 4, 0, &walk), CUT_SHORT);
     REFUSES_OPENING(yz_range_open(S("abc"), little(5, 4), MAX, 0, &walk), CUT_SHORT);
-    REFUSES_OPENING(yz_range_open(S("abc"), little(5, 3), MAX, 0, &walk), BAD_SIZE(3));
+    REFUSES_OPENING(yz_range_open(S("abc"), little(5, 5), MAX, 0, &walk), BAD_SIZE(5));
 }
 
 static void test_location_open(void) {
@@ -575,10 +624,12 @@ static void test_location_open(void) {
     OPENS(yz_location_open(S("abc"), little(5, 4), DWO, 2, 7, &walk), 2, 7, 1);
     OPENS(yz_location_open(S("abc"), encoded(2, 8, true, BIG), DWO, 3, MAX, &walk), 3, MAX, 1);
     OPENS(yz_location_open(NO_BYTES, little(5, 1), MAIN, 0, 0, &walk), 0, 0, 0);
+    OPENS(yz_location_open(S("abc"), big(4, 3), DWO, 2, 7, &walk), 2, 7, 1);
+    REFUSES_OPENING(yz_location_open(NO_BYTES, little(5, 3), MAIN, 1, 0, &walk), CUT_SHORT);
     REFUSES_OPENING(yz_location_open(NO_BYTES, little(4, 2), DWO, 1, 0, &walk), CUT_SHORT);
     REFUSES_OPENING(yz_location_open(S("abc"), little(5, 4), MAIN, 4, 0, &walk), CUT_SHORT);
     REFUSES_OPENING(yz_location_open(S("abc"), little(5, 4), DWO, MAX, 0, &walk), CUT_SHORT);
-    REFUSES_OPENING(yz_location_open(S("abc"), little(5, 3), MAIN, MAX, 0, &walk), BAD_SIZE(3));
+    REFUSES_OPENING(yz_location_open(S("abc"), little(5, 5), MAIN, MAX, 0, &walk), BAD_SIZE(5));
 }
 
 /* ---- Range lists. They leave a walk's word for split lists as it is, whatever it is. ---- */
@@ -587,6 +638,61 @@ static void ranges_from(uint64_t at, uint64_t base_address) { walk_from(at, base
 
 #define NEXT(list, table, encoding, at, base_address, ...)                                                           \
     STEP(range, yz_range_next(list, table, 8, encoding, &walk), at, base_address, __VA_ARGS__)
+
+/* Addresses of three bytes. */
+static void ranges_of_three(void) {
+    ranges_from(0, 0);
+    NEXT(S("\x06\x10\0\0\x20\0\0\0"), TABLE_3, little(5, 3), 7, 0, DONE, 0x10, 0x20);
+    NEXT(S("\x06\x10\0\0\x20\0\0\0"), TABLE_3, little(5, 3), 8, 0, END);
+    ranges_from(0, 0);
+    NEXT(S("\x06\0\0\x10\0\0\x20\0"), BIG_TABLE_3, big(5, 3), 7, 0, DONE, 0x10, 0x20);
+    NEXT(S("\x06\0\0\x10\0\0\x20\0"), BIG_TABLE_3, big(5, 3), 8, 0, END);
+    ranges_from(0, 0);
+    NEXT(S("\x06\x01\x02\x03\x04\x05\x06"), TABLE_3, little(5, 3), 7, 0, DONE, 0x030201, 0x060504);
+    ranges_from(0, 0);
+    NEXT(S("\x06\x01\x02\x03\x04\x05\x06"), BIG_TABLE_3, big(5, 3), 7, 0, DONE, 0x010203, 0x040506);
+    ranges_from(0, 0);
+    NEXT(S("\x05\x10\x20\x30\x04\x01\x02\0"), TABLE_3, little(5, 3), 7, 0x302010, DONE, 0x302011, 0x302012);
+    ranges_from(0, 0xfffffd);
+    NEXT(S("\x04\0\x01\0"), TABLE_3, little(5, 3), 3, 0xfffffd, DONE, 0xfffffd, 0xfffffe);
+    ranges_from(0, 0xfffffe);
+    NEXT(S("\x04\0\x01\0"), TABLE_3, little(5, 3), 4, 0xfffffe, END);
+    ranges_from(0, 0xffff00);
+    NEXT(S("\x04\x80\x02\x90\x02\0"), TABLE_3, little(5, 3), 5, 0xffff00, DONE, 0, 0x10);
+    ranges_from(0, 0);
+    NEXT(S("\x07\xf0\xff\xff\x0f\0"), TABLE_3, little(5, 3), 5, 0, DONE, 0xfffff0, 0xffffff);
+    ranges_from(0, 0);
+    NEXT(S("\x07\xf0\xff\xff\x10\0"), TABLE_3, little(5, 3), 6, 0, END);
+    ranges_from(0, 0);
+#define LIST S("\xff\xff\xff\0\x20\0\x01\0\0\x03\0\0\0\0\0\0\0\0")
+    NEXT(LIST, TABLE_3, little(4, 3), 12, 0x2000, DONE, 0x2001, 0x2003);
+    NEXT(LIST, TABLE_3, little(4, 3), 18, 0x2000, END);
+#undef LIST
+    ranges_from(0, 0);
+#define LIST S("\xff\xff\xff\x10\x20\x30\0\0\x01\0\0\x03")
+    NEXT(LIST, BIG_TABLE_3, big(3, 3), 12, 0x102030, DONE, 0x102031, 0x102033);
+    NEXT(LIST, BIG_TABLE_3, big(3, 3), 12, 0x102030, END);
+#undef LIST
+    /* No base selection: of 00ffff not all bits are set. */
+    ranges_from(0, 0);
+    NEXT(S("\xff\xff\0\xff\xff\x01"), TABLE_3, little(4, 3), 6, 0, DONE, 0xffff, 0x01ffff);
+    ranges_from(0, 0);
+#define LIST S("\x02\0\x02\x02\0\x01\x01\x01\x04\0\x05\0")
+    NEXT(LIST, TABLE_3, little(5, 3), 3, 0, CUT_SHORT);
+    NEXT(LIST, TABLE_3, little(5, 3), 6, 0, DONE, 0x10, 0x20);
+    NEXT(LIST, TABLE_3, little(5, 3), 11, 0x20, DONE, 0x20, 0x25);
+#undef LIST
+    ranges_from(0, 0);
+    NEXT(S("\x03\x01\x08\0"), BIG_TABLE_3, big(5, 3), 3, 0, DONE, 0x20, 0x28);
+    ranges_from(0, 7);
+    NEXT(S("\x06\x10\0"), TABLE_3, little(5, 3), 3, 7, CUT_SHORT);
+    ranges_from(0, 7);
+    NEXT(S("\xff\xff\xff\0\x20"), TABLE_3, little(4, 3), 5, 7, CUT_SHORT);
+    ranges_from(0, 7);
+    NEXT(S("\x03" INDEX_THIRD "\0\0"), TABLE_3, little(5, 3), 11, 7, CUT_SHORT);
+    ranges_from(0, 7);
+    NEXT(S("\x03" INDEX_PAST_THIRD "\0\0"), TABLE_3, little(5, 3), 11, 7, TOO_FAR);
+}
 
 static void test_range_next(void) {
     ranges_from(0, 0);
@@ -627,12 +733,13 @@ static void test_range_next(void) {
     ranges_from(0, 7);
     NEXT(S("\x03" INDEX_2_61 "\0\0"), TABLE, little(5, 8), 11, 7, TOO_FAR);
     ranges_from(0, 7);
-    NEXT(S("\x04\x01\x02"), TABLE, little(5, 3), 3, 7, BAD_SIZE(3));
-    NEXT(S("\x04\x01\x02"), TABLE, little(5, 3), 3, 7, BAD_SIZE(3));
+    NEXT(S("\x04\x01\x02"), TABLE, little(5, 5), 3, 7, BAD_SIZE(5));
+    NEXT(S("\x04\x01\x02"), TABLE, little(5, 5), 3, 7, BAD_SIZE(5));
     ranges_from(MAX, 7);
     NEXT(S("\x04\x01\x02"), TABLE, little(5, 4), MAX, 7, END);
     ranges_from(0, 7);
     NEXT(NO_BYTES, NO_BYTES, little(5, 4), 0, 7, END);
+    ranges_of_three();
 }
 
 #define RAW(list, encoding, at, ...)                                                                                 \
@@ -656,6 +763,21 @@ static void test_range_next_raw(void) {
     RAW(S("\xff\x20\x03\x05"), little(4, 1), 4, END);
     ranges_from(0, 7);
     RAW(S("\x05\0\x01"), encoded(6, 2, true, BIG), 3, DONE, YZ_RLE_BASE_ADDRESS, 1, 0);
+    ranges_from(0, 7);
+#define LIST S("\x05\x01\x02\x03\x06\x01\x02\x03\x04\x05\x06\x07\x01\x02\x03\x80\x01\0")
+    RAW(LIST, little(5, 3), 4, DONE, YZ_RLE_BASE_ADDRESS, 0x030201, 0);
+    RAW(LIST, little(5, 3), 11, DONE, YZ_RLE_START_END, 0x030201, 0x060504);
+    RAW(LIST, little(5, 3), 17, DONE, YZ_RLE_START_LENGTH, 0x030201, 0x80);
+    RAW(LIST, little(5, 3), 18, END);
+#undef LIST
+    ranges_from(0, 7);
+#define LIST S("\xff\xff\xff\x01\x02\x03\0\0\x03\x04\x05\x06\0\0\0\0\0")
+    RAW(LIST, big(4, 3), 6, DONE, YZ_RLE_BASE_ADDRESS, 0x010203, 0);
+    RAW(LIST, big(4, 3), 12, DONE, YZ_RLE_ADDRESS_OR_OFFSET_PAIR, 3, 0x040506);
+    RAW(LIST, big(4, 3), 17, CUT_SHORT);
+#undef LIST
+    ranges_from(0, 7);
+    RAW(S("\x06\x01\x02\x03\x04\x05"), big(5, 3), 6, CUT_SHORT);
     ranges_from(0, 7);
     RAW(S("\xff\0\0"), little(5, 1), 3, REFUSED(YZ_UNKNOWN_RANGE_LISTS_ENTRY, 0xff));
     ranges_from(0, 7);
@@ -698,11 +820,25 @@ static void test_range_convert_raw(void) {
     CONVERT(TABLE, little(5, 4), YZ_RLE_START_LENGTH, 5, 7, 0x100, DONE, 5, 12);
     CONVERT(TABLE, little(5, 4), 8, 5, 7, 0x100, REFUSED(YZ_UNKNOWN_RANGE_LISTS_ENTRY, 8));
     CONVERT(TABLE, little(5, 4), MAX, 5, 7, 0x100, REFUSED(YZ_UNKNOWN_RANGE_LISTS_ENTRY, MAX));
-    CONVERT(TABLE, little(5, 3), MAX, 5, 7, 0x100, BAD_SIZE(3));
-    CONVERT(TABLE, little(5, 3), YZ_RLE_START_END, 5, 7, 0x100, BAD_SIZE(3));
+    CONVERT(TABLE, little(5, 5), MAX, 5, 7, 0x100, BAD_SIZE(5));
+    CONVERT(TABLE, little(5, 5), YZ_RLE_START_END, 5, 7, 0x100, BAD_SIZE(5));
     CONVERT(TABLE, little(5, 4), YZ_RLE_BASE_ADDRESSX, 2, 0, 0x100, CUT_SHORT);
     CONVERT(TABLE, little(5, 4), YZ_RLE_STARTX_ENDX, 0, MAX, 0x100, TOO_FAR);
     CONVERT(NO_BYTES, little(5, 4), YZ_RLE_BASE_ADDRESSX, 0, 0, 0x100, CUT_SHORT);
+    CONVERT(TABLE_3, little(5, 3), YZ_RLE_ADDRESS_OR_OFFSET_PAIR, 0xffff00, 0xffff10, 0x100, DONE, 0, 0x10);
+    CONVERT(TABLE_3, little(5, 3), YZ_RLE_BASE_ADDRESSX, 1, 0, 0x20, COMES_TO_NOTHING);
+    CONVERT(BIG_TABLE_3, big(5, 3), YZ_RLE_STARTX_ENDX, 0, 1, 0x100, DONE, 0x10, 0x20);
+    CONVERT(S("12345678\x01\x02\x03\x04\x05\x06"), little(5, 3), YZ_RLE_STARTX_ENDX, 0, 1, 0x100, DONE, 0x030201, 0x060504);
+    CONVERT(TABLE_3, little(5, 3), YZ_RLE_STARTX_LENGTH, 1, 0xffffdf, 0x100, DONE, 0x20, 0xffffff);
+    CONVERT(TABLE_3, little(5, 3), YZ_RLE_STARTX_LENGTH, 1, 0xffffe0, 0x100, COMES_TO_NOTHING);
+    CONVERT(TABLE_3, little(5, 3), YZ_RLE_OFFSET_PAIR, 0xffff00, 0xffff10, 0x100, DONE, 0, 0x10);
+    CONVERT(TABLE_3, little(5, 3), YZ_RLE_START_END, 0xfffffd, 0xffffff, 0x100, DONE, 0xfffffd, 0xffffff);
+    CONVERT(TABLE_3, little(5, 3), YZ_RLE_START_END, 0xfffffe, 0xffffff, 0x100, COMES_TO_NOTHING);
+    CONVERT(TABLE_3, little(5, 3), YZ_RLE_START_LENGTH, 0xfffff0, 0x0f, 0x100, DONE, 0xfffff0, 0xffffff);
+    CONVERT(TABLE_3, little(5, 3), YZ_RLE_START_LENGTH, 0xfffff0, 0x10, 0x100, COMES_TO_NOTHING);
+    CONVERT(TABLE_3, little(5, 3), YZ_RLE_BASE_ADDRESSX, 2, 0, 0x100, CUT_SHORT);
+    CONVERT(TABLE_3, little(5, 3), YZ_RLE_STARTX_ENDX, 0, THIRD, 0x100, CUT_SHORT);
+    CONVERT(TABLE_3, little(5, 3), YZ_RLE_STARTX_ENDX, 0, THIRD + 1, 0x100, TOO_FAR);
 }
 
 #define LOOKUP(list, encoding, offset, address, ...)                                                                 \
@@ -722,12 +858,59 @@ static void test_range_lookup(void) {
     LOOKUP(NO_BYTES, little(5, 4), 0, 0, NOT_THERE);
     LOOKUP(NO_BYTES, little(5, 4), 1, 0, CUT_SHORT);
     IS(range, yz_range_lookup(S("\x01\x03\0\0"), NO_BYTES, 0, big(4, 1), 0, 0x40, 0x42), DONE, 0x41, 0x43);
+#define LIST S("\x07\x01\x02\x03\x08\x04\x02\x03\x06\x10\0")
+    LOOKUP(LIST, little(5, 3), 0, 0x030208, DONE, 0x030201, 0x030209);
+    LOOKUP(LIST, big(5, 3), 0, 0x01020a, DONE, 0x010203, 0x01020b);
+    LOOKUP(LIST, little(5, 3), 0, 0x42, DONE, 0x42, 0x43);
+    LOOKUP(LIST, little(5, 3), 0, 0x030209, CUT_SHORT);
+#undef LIST
+    LOOKUP(S("\x07\xf0\xff\xff\x10\0"), little(5, 3), 0, 0xfffff0, NOT_THERE);
+    LOOKUP(NO_BYTES, little(5, 3), 1, 0, CUT_SHORT);
+    IS(range, yz_range_lookup(S("\x03\x01\x08\0"), TABLE_3, 8, little(5, 3), 0, 0, 0x27), DONE, 0x20, 0x28);
 }
 
 /* ---- Location lists. Any word but 0 makes a walk one of a split list. ---- */
 
 #define LNEXT(list, table, encoding, at, base_address, ...)                                                          \
     STEP(location, yz_location_next(list, table, 8, encoding, &walk), at, base_address, __VA_ARGS__)
+
+/* Addresses of three bytes. */
+static void locations_of_three(void) {
+    walk_from(0, 0, 0);
+#define LIST S("\x07\x01\x02\x03\x04\x05\x06\x01\x50\x08\xf0\xff\xff\x0f\x01\x51\x08\xf0\xff\xff\x10\0\0")
+    LNEXT(LIST, TABLE_3, little(5, 3), 9, 0, DONE, 0x030201, 0x060504, 8, 1);
+    LNEXT(LIST, TABLE_3, little(5, 3), 16, 0, DONE, 0xfffff0, 0xffffff, 15, 1);
+    LNEXT(LIST, TABLE_3, little(5, 3), 23, 0, END);
+#undef LIST
+    walk_from(0, 0, 0);
+    LNEXT(S("\x07\x01\x02\x03\x04\x05\x06\0"), BIG_TABLE_3, big(5, 3), 8, 0, DONE, 0x010203, 0x040506, 8, 0);
+    walk_from(0, 0, 0);
+    LNEXT(S("\x05\x01\x50\0"), TABLE_3, little(5, 3), 3, 0, DONE, 0, MAX, 2, 1);
+    walk_from(0, 0xfffffd, 0);
+    LNEXT(S("\x04\0\x01\0\0"), TABLE_3, little(5, 3), 4, 0xfffffd, DONE, 0xfffffd, 0xfffffe, 4, 0);
+    walk_from(0, 0xfffffe, 0);
+    LNEXT(S("\x04\0\x01\0\0"), TABLE_3, little(5, 3), 5, 0xfffffe, END);
+    walk_from(0, 0, 0);
+#define LIST S("\xff\xff\xff\x10\x20\x30\x01\0\0\x03\0\0\x02\0\x50\x51\0\0\0\0\0\0")
+    LNEXT(LIST, TABLE_3, little(4, 3), 16, 0x302010, DONE, 0x302011, 0x302013, 14, 2);
+    LNEXT(LIST, TABLE_3, little(4, 3), 22, 0x302010, END);
+#undef LIST
+    walk_from(0, 0, 1);
+#define LIST S("\x03\x01\x08\0\0\0\x01\0\x50\x06\x10\x20\x30\x04\x01\x02\0\0\0")
+    LNEXT(LIST, TABLE_3, little(4, 3), 9, 0, DONE, 0x20, 0x28, 8, 1);
+    LNEXT(LIST, TABLE_3, little(4, 3), 18, 0x302010, DONE, 0x302011, 0x302012, 18, 0);
+    LNEXT(LIST, TABLE_3, little(4, 3), 19, 0x302010, END);
+#undef LIST
+    walk_from(0, 0, 1);
+    LNEXT(S("\x03\x01\0\0\0\x08\0\x01\x50\0"), BIG_TABLE_3, big(4, 3), 9, 0, DONE, 0x20, 0x28, 8, 1);
+    walk_from(0, 0, 0);
+    LNEXT(S("\x02\0\x02\0\x02\0\x01\0\0"), TABLE_3, little(5, 3), 4, 0, CUT_SHORT);
+    LNEXT(S("\x02\0\x02\0\x02\0\x01\0\0"), TABLE_3, little(5, 3), 8, 0, DONE, 0x10, 0x20, 8, 0);
+    walk_from(0, 7, 0);
+    LNEXT(S("\x07\x10\0"), TABLE_3, little(5, 3), 3, 7, CUT_SHORT);
+    walk_from(0, 7, 0);
+    LNEXT(S("\x03" INDEX_PAST_THIRD "\0\0\0"), TABLE_3, little(5, 3), 12, 7, TOO_FAR);
+}
 
 static void test_location_next(void) {
     walk_from(0, 0, 0);
@@ -773,6 +956,7 @@ static void test_location_next(void) {
     LNEXT(S("\x05\0"), TABLE, little(5, 4), MAX, 7, END);
     walk_from(0, 7, 0);
     LNEXT(NO_BYTES, NO_BYTES, little(5, 4), 0, 7, END);
+    locations_of_three();
 }
 
 #define LRAW(list, encoding, at, ...)                                                                                \
@@ -800,6 +984,21 @@ static void test_location_next_raw(void) {
 #undef LIST
     walk_from(0, 7, 0);
     LRAW(S("\x03\x05\x01\0\x50"), little(4, 1), 5, DONE, YZ_LLE_ADDRESS_OR_OFFSET_PAIR, 3, 5, 4, 1);
+    walk_from(0, 7, 0);
+#define LIST S("\x06\x01\x02\x03\x07\x01\x02\x03\x04\x05\x06\0\x08\x01\x02\x03\x02\x01\x50\0")
+    LRAW(LIST, big(5, 3), 4, DONE, YZ_LLE_BASE_ADDRESS, 0x010203, 0, 0, 0);
+    LRAW(LIST, big(5, 3), 12, DONE, YZ_LLE_START_END, 0x010203, 0x040506, 12, 0);
+    LRAW(LIST, big(5, 3), 19, DONE, YZ_LLE_START_LENGTH, 0x010203, 2, 18, 1);
+    LRAW(LIST, big(5, 3), 20, END);
+#undef LIST
+    walk_from(0, 7, 1);
+    LRAW(S("\x08\x01\x02\x03\x02\x01\0\x50"), little(4, 3), 8, DONE, YZ_LLE_START_LENGTH, 0x030201, 2, 7, 1);
+    walk_from(0, 7, 0);
+#define LIST S("\xff\xff\xff\x01\x02\x03\x04\x05\x06\x07\x08\x09\x01\0\x50\0\0\0\0\0")
+    LRAW(LIST, little(4, 3), 6, DONE, YZ_LLE_BASE_ADDRESS, 0x030201, 0, 0, 0);
+    LRAW(LIST, little(4, 3), 15, DONE, YZ_LLE_ADDRESS_OR_OFFSET_PAIR, 0x060504, 0x090807, 14, 1);
+    LRAW(LIST, little(4, 3), 20, CUT_SHORT);
+#undef LIST
     walk_from(0, 7, 0);
     LRAW(S("\x03\x05\x01"), little(4, 1), 3, CUT_SHORT);
     walk_from(0, 7, 0);
@@ -853,6 +1052,21 @@ static void test_location_convert_raw(void) {
     LCONVERT(TABLE, little(5, 4), entry(YZ_LLE_STARTX_LENGTH, 2, 7), 0x100, CUT_SHORT);
     LCONVERT(TABLE, little(5, 4), entry(YZ_LLE_STARTX_LENGTH, MAX, 7), 0x100, TOO_FAR);
     LCONVERT(NO_BYTES, little(5, 4), entry(YZ_LLE_BASE_ADDRESSX, 0, 0), 0x100, CUT_SHORT);
+    LCONVERT(TABLE_3, little(5, 3), entry(YZ_LLE_ADDRESS_OR_OFFSET_PAIR, 0xffff00, 0xffff10), 0x100, DONE, 0, 0x10, 3, 4);
+    LCONVERT(TABLE_3, little(5, 3), entry(YZ_LLE_BASE_ADDRESSX, 1, 0), 0x20, COMES_TO_NOTHING);
+    LCONVERT(BIG_TABLE_3, big(5, 3), entry(YZ_LLE_STARTX_ENDX, 0, 1), 0x100, DONE, 0x10, 0x20, 3, 4);
+    LCONVERT(S("12345678\x01\x02\x03\x04\x05\x06"), little(5, 3), entry(YZ_LLE_STARTX_ENDX, 0, 1), 0x100, DONE, 0x030201,
+             0x060504, 3, 4);
+    LCONVERT(TABLE_3, little(5, 3), entry(YZ_LLE_STARTX_LENGTH, 1, 0xffffdf), 0x100, DONE, 0x20, 0xffffff, 3, 4);
+    LCONVERT(TABLE_3, little(5, 3), entry(YZ_LLE_STARTX_LENGTH, 1, 0xffffe0), 0x100, COMES_TO_NOTHING);
+    LCONVERT(TABLE_3, little(5, 3), entry(YZ_LLE_OFFSET_PAIR, 0xffff00, 0xffff10), 0x100, DONE, 0, 0x10, 3, 4);
+    LCONVERT(TABLE_3, little(5, 3), entry(YZ_LLE_DEFAULT_LOCATION, 9, 9), 0x100, DONE, 0, MAX, 3, 4);
+    LCONVERT(TABLE_3, little(5, 3), entry(YZ_LLE_START_END, 0xfffffd, 0xffffff), 0x100, DONE, 0xfffffd, 0xffffff, 3, 4);
+    LCONVERT(TABLE_3, little(5, 3), entry(YZ_LLE_START_END, 0xfffffe, 0xffffff), 0x100, COMES_TO_NOTHING);
+    LCONVERT(TABLE_3, little(5, 3), entry(YZ_LLE_START_LENGTH, 0xfffff0, 0x0f), 0x100, DONE, 0xfffff0, 0xffffff, 3, 4);
+    LCONVERT(TABLE_3, little(5, 3), entry(YZ_LLE_START_LENGTH, 0xfffff0, 0x10), 0x100, COMES_TO_NOTHING);
+    LCONVERT(TABLE_3, little(5, 3), entry(YZ_LLE_STARTX_LENGTH, THIRD, 7), 0x100, CUT_SHORT);
+    LCONVERT(TABLE_3, little(5, 3), entry(YZ_LLE_STARTX_LENGTH, THIRD + 1, 7), 0x100, TOO_FAR);
 }
 
 static bool expression_is(const uint8_t *section, size_t section_len, yz_part in, uint64_t offset, uint64_t length) {
@@ -883,7 +1097,7 @@ static void test_location_lookup(void) {
     LLOOKUP(LIST, little(5, 4), DWO, 0, 0x101, DONE, 0x101, 0x102, 12, 1);
     LLOOKUP(LIST, little(5, 4), MAIN, 0, 0x18, REFUSED(YZ_UNKNOWN_LOC_LISTS_ENTRY, 9));
     LLOOKUP(LIST, little(5, 4), MAIN, MAX, 0x17, CUT_SHORT);
-    LLOOKUP(LIST, little(5, 3), MAIN, MAX, 0x17, BAD_SIZE(3));
+    LLOOKUP(LIST, little(5, 5), MAIN, MAX, 0x17, BAD_SIZE(5));
 #undef LIST
 #define LIST S("\x03\0\x08\0\0\0\x01\0\x50\0")
     LLOOKUP(LIST, little(4, 4), DWO, 0, 0x12, DONE, 0x10, 0x18, 8, 1);
@@ -894,6 +1108,16 @@ static void test_location_lookup(void) {
     LLOOKUP(S("\x09\x04\x01\x02\0\0"), little(5, 4), MAIN, 1, 0x101, DONE, 0x101, 0x102, 5, 0);
     LLOOKUP(NO_BYTES, little(5, 4), MAIN, 0, 0, NOT_THERE);
     LLOOKUP(NO_BYTES, little(5, 4), MAIN, 1, 0, CUT_SHORT);
+#define LIST S("\x08\x01\x02\x03\x08\x01\x50\x04\x01\x02\x01\x51\x07\x10\0")
+    LLOOKUP(LIST, little(5, 3), MAIN, 0, 0x030208, DONE, 0x030201, 0x030209, 6, 1);
+    LLOOKUP(LIST, big(5, 3), DWO, 0, 0x01020a, DONE, 0x010203, 0x01020b, 6, 1);
+    LLOOKUP(LIST, little(5, 3), DWO, 0, 0x101, DONE, 0x101, 0x102, 11, 1);
+    LLOOKUP(LIST, little(5, 3), MAIN, 0, 0x030209, CUT_SHORT);
+#undef LIST
+    LLOOKUP(S("\x08\xf0\xff\xff\x10\0\0"), little(5, 3), MAIN, 0, 0xfffff0, NOT_THERE);
+    LLOOKUP(NO_BYTES, little(5, 3), MAIN, 1, 0, CUT_SHORT);
+    IS(location, yz_location_lookup(S("\x03\0\x08\0\0\0\x01\0\x50\0"), TABLE_3, 8, little(4, 3), DWO, 0, 0, 0x12), DONE,
+       0x10, 0x18, 8, 1);
 }
 
 /* ---- Coverage ---- */
@@ -963,11 +1187,26 @@ static void test_range_coverage(void) {
     CHECK(range_is(0, 0, 1) && range_is(YZ_LIMIT - 1, 2 * YZ_LIMIT - 2, 2 * YZ_LIMIT - 1));
     COVERS(yz_range_coverage(S("\x09\x01\x03\0\0"), NO_BYTES, 0, big(4, 1), 1, 0x40, &begins, &ends), 1);
     CHECK(range_is(0, 0x41, 0x43));
+    COVERS(COVER(S("\x07\x20\0\0\x10\x07\x10\0\0\x10\0"), little(5, 3), 0), 1);
+    CHECK(range_is(0, 0x10, 0x30));
+    COVERS(COVER(S("\x06\x01\x02\x03\x04\x05\x06\0"), little(5, 3), 0), 1);
+    CHECK(range_is(0, 0x030201, 0x060504));
+    COVERS(COVER(S("\x06\x01\x02\x03\x04\x05\x06\x07\0\0\x01\x01\0"), big(5, 3), 0), 2);
+    CHECK(range_is(0, 1, 2) && range_is(1, 0x010203, 0x040506));
+    COVERS(COVER(S("\x07\0\0\0\xff\xff\xff\x07\0"), little(5, 3), 0), 1);
+    CHECK(range_is(0, 0, 0xffffff));
+    COVERS(COVER(S("\x07\x01\0\0\xff\xff\xff\x07\0"), little(5, 3), 0), 0);
+    COVERS(yz_range_coverage(S("\x03\x01\x08\x03\0\x04\0"), TABLE_3, 8, little(5, 3), 0, 0, &begins, &ends), 2);
+    CHECK(range_is(0, 0x10, 0x14) && range_is(1, 0x20, 0x28));
+    COVERS(yz_range_coverage(S("\0\0\x01\0\0\x03\0\0\0\0\0\0"), NO_BYTES, 0, big(4, 3), 0, 0xfffd, &begins, &ends), 1);
+    CHECK(range_is(0, 0xfffe, 0x010000));
+    REFUSES_COVERAGE(COVER(S("\x07\x20\0\0\x10\x06\x10\0"), little(5, 3), 0), CUT_SHORT);
+    REFUSES_COVERAGE(COVER(NO_BYTES, little(5, 3), 1), CUT_SHORT);
     REFUSES_COVERAGE(COVER(APART(YZ_LIMIT + 1), little(5, 4), 0), REFUSED(YZ_TOO_MANY_RANGES, 0));
     REFUSES_COVERAGE(COVER(S("\x07\x20\0\0\0\x10\x08"), little(5, 4), 0), REFUSED(YZ_UNKNOWN_RANGE_LISTS_ENTRY, 8));
     REFUSES_COVERAGE(COVER(S("\x07\x20\0\0\0\x10\x02\0\x02\0"), little(5, 4), 0), CUT_SHORT);
     REFUSES_COVERAGE(COVER(TOUCHING, little(5, 4), MAX), CUT_SHORT);
-    REFUSES_COVERAGE(COVER(TOUCHING, little(5, 3), MAX), BAD_SIZE(3));
+    REFUSES_COVERAGE(COVER(TOUCHING, little(5, 5), MAX), BAD_SIZE(5));
     REFUSES_COVERAGE(COVER(NO_BYTES, little(5, 4), 1), CUT_SHORT);
 }
 
@@ -992,6 +1231,16 @@ static void test_location_coverage(void) {
     COVERS(LCOVER(NO_BYTES, little(4, 4), MAIN, 0), 0);
     COVERS(yz_location_coverage(S("\x09\x04\x01\x02\0\0"), NO_BYTES, 0, little(5, 4), MAIN, 1, 0x100, &begins, &ends), 1);
     CHECK(range_is(0, 0x101, 0x102));
+    COVERS(LCOVER(S("\x08\x20\0\0\x10\0\x07\x10\0\0\x20\0\0\x01\x50\0"), little(5, 3), MAIN, 0), 1);
+    CHECK(range_is(0, 0x10, 0x30));
+    COVERS(LCOVER(S("\x07\x01\x02\x03\x04\x05\x06\x01\x50\0"), little(5, 3), DWO, 0), 1);
+    CHECK(range_is(0, 0x030201, 0x060504));
+    COVERS(LCOVER(S("\x01\x02\x03\x04\x05\x06\0\x01\x50\0\0\0\0\0\0"), big(4, 3), MAIN, 0), 1);
+    CHECK(range_is(0, 0x010203, 0x040506));
+    COVERS(yz_location_coverage(S("\x03\0\x08\0\0\0\x01\0\x50\0"), TABLE_3, 8, little(4, 3), DWO, 0, 0, &begins, &ends), 1);
+    CHECK(range_is(0, 0x10, 0x18));
+    REFUSES_COVERAGE(LCOVER(S("\x07\x10\0"), little(5, 3), MAIN, 0), CUT_SHORT);
+    REFUSES_COVERAGE(LCOVER(NO_BYTES, little(4, 3), DWO, 1), CUT_SHORT);
     REFUSES_COVERAGE(LCOVER(DEFAULTS(YZ_LIMIT + 1), little(5, 4), MAIN, 0), REFUSED(YZ_TOO_MANY_RANGES, 0));
     REFUSES_COVERAGE(LCOVER(S("\x04\x01\x02\0\x09"), little(5, 4), MAIN, 0), REFUSED(YZ_UNKNOWN_LOC_LISTS_ENTRY, 9));
     REFUSES_COVERAGE(LCOVER(S("\x03\x02\x08\0\0\0\0\0"), little(4, 4), DWO, 0), CUT_SHORT);
@@ -1172,6 +1421,17 @@ static void test_range_canonical(void) {
     WRITES(CANONICAL(S("\x03\0\x20\0"), little(5, 4), 0, 64), TOUCHING_CANONICAL, 11);
     WRITES(CANONICAL(NO_BYTES, little(5, 4), 0, 1), "", 1);
     WRITES(yz_range_canonical(S("\x09\x01\x21\0\0"), NO_BYTES, 0, big(4, 1), 1, 0x0f, output, 64), TOUCHING_CANONICAL, 11);
+    WRITES(CANONICAL(S("\x07\x20\0\0\x10\x07\x10\0\0\x10\0"), little(5, 3), 0, 11), TOUCHING_CANONICAL, 11);
+    WRITES(yz_range_canonical(S("\x03\0\x20\0"), TABLE_3, 8, little(5, 3), 0, 0, output, 64), TOUCHING_CANONICAL, 11);
+    /* The same addresses, whatever the size, the order and the version. */
+    WRITES(CANONICAL(S("\x06\x01\x02\x03\x04\x05\x06\0"), little(5, 3), 0, 13), THREE_CANONICAL, 13);
+    WRITES(CANONICAL(S("\x06\x03\x02\x01\x06\x05\x04\0"), big(5, 3), 0, 13), THREE_CANONICAL, 13);
+    WRITES(CANONICAL(S("\x01\x02\x03\x04\x05\x06"), little(4, 3), 0, 13), THREE_CANONICAL, 13);
+    WRITES(CANONICAL(S("\x06\x01\x02\x03\0\x04\x05\x06\0\0"), little(5, 4), 0, 13), THREE_CANONICAL, 13);
+    WRITES(CANONICAL(S("\x06\x01\x02\x03\0\0\0\0\0\x04\x05\x06\0\0\0\0\0\0"), little(5, 8), 0, 13), THREE_CANONICAL, 13);
+    REFUSES_OUTPUT(CANONICAL(S("\x06\x01\x02\x03\x04\x05\x06\0"), little(5, 3), 0, 12), NO_ROOM);
+    REFUSES_OUTPUT(CANONICAL(S("\x06\x10\0"), little(5, 3), 0, 64), CUT_SHORT);
+    REFUSES_OUTPUT(CANONICAL(NO_BYTES, little(5, 3), 1, 64), CUT_SHORT);
     REFUSES_OUTPUT(CANONICAL(TOUCHING, little(5, 4), 0, 10), NO_ROOM);
     REFUSES_OUTPUT(yz_range_canonical(TOUCHING, NO_BYTES, 0, little(5, 4), 0, 0, NO_BYTES), NO_ROOM);
     REFUSES_OUTPUT(CANONICAL(S("\0"), little(5, 4), 0, 0), NO_ROOM);
@@ -1192,6 +1452,11 @@ static void test_location_canonical(void) {
     WRITES(LCANONICAL(NO_BYTES, little(5, 4), MAIN, 0, 1), "", 1);
     WRITES(yz_location_canonical(S("\x09\x04\0\x20\0\0"), NO_BYTES, 0, little(5, 4), MAIN, 1, 0x10, output, 11),
            TOUCHING_CANONICAL, 11);
+    WRITES(yz_location_canonical(LIST, TABLE_3, 8, little(4, 3), DWO, 0, 0, output, 64), TOUCHING_CANONICAL, 11);
+    WRITES(LCANONICAL(S("\x07\x01\x02\x03\x04\x05\x06\x01\x50\0"), little(5, 3), MAIN, 0, 13), THREE_CANONICAL, 13);
+    WRITES(LCANONICAL(S("\x03\x02\x01\x06\x05\x04\0\0"), big(4, 3), MAIN, 0, 13), THREE_CANONICAL, 13);
+    WRITES(LCANONICAL(S("\x07\x01\x02\x03\0\x04\x05\x06\0\0\0"), little(5, 4), MAIN, 0, 13), THREE_CANONICAL, 13);
+    REFUSES_OUTPUT(LCANONICAL(S("\x07\x10\0"), little(5, 3), MAIN, 0, 64), CUT_SHORT);
     REFUSES_OUTPUT(LCANONICAL(S("\x04\x10\x30\0\0"), little(5, 4), MAIN, 0, 10), NO_ROOM);
     REFUSES_OUTPUT(LCANONICAL(LIST, little(4, 4), MAIN, 0, 64), CUT_SHORT);
     REFUSES_OUTPUT(LCANONICAL(S("\x09"), little(5, 4), MAIN, 0, 0), REFUSED(YZ_UNKNOWN_LOC_LISTS_ENTRY, 9));

@@ -111,11 +111,16 @@ fn main() -> ExitCode {
 
 const EOF: Error = Error::UnexpectedEof;
 const TWO_TO_61: u64 = 1 << 61;
+/// Times 3 it is 2^64 - 1.
+const THIRD: u64 = u64::MAX / 3;
 
 /// The scope's address table: its addresses begin at 8.
 const TABLE: &[u8] = &[0x0c, 0, 0, 0, 5, 0, 4, 0, 0x10, 0, 0, 0, 0x20, 0, 0, 0];
 /// The same in the other order.
 const BIG_TABLE: &[u8] = &[0, 0, 0, 0x0c, 0, 5, 4, 0, 0, 0, 0, 0x10, 0, 0, 0, 0x20];
+/// Both with addresses of three bytes.
+const TABLE_3: &[u8] = &[0x0a, 0, 0, 0, 5, 0, 3, 0, 0x10, 0, 0, 0x20, 0, 0];
+const BIG_TABLE_3: &[u8] = &[0, 0, 0, 0x0a, 0, 5, 3, 0, 0, 0, 0x10, 0, 0, 0x20];
 /// A header of lists with two offsets, 8 and 10, and two lists of one byte.
 const LISTS: &[u8] = &[0x12, 0, 0, 0, 5, 0, 4, 0, 2, 0, 0, 0, 8, 0, 0, 0, 0x0a, 0, 0, 0, 0, 0];
 /// Nine bytes of a LEB128 number; the tenth decides.
@@ -127,6 +132,11 @@ fn encoding(version: u16, address_size: u8) -> Encoding {
 
 fn dwarf64() -> Encoding {
     Encoding { address_size: 8, format: Format::Dwarf64, version: 5 }
+}
+
+/// The table for lists of an address size: the scope's, but for three bytes.
+fn table_of(address_size: u8) -> DebugAddr<'static> {
+    DebugAddr::new(if address_size == 3 { TABLE_3 } else { TABLE }, Little)
 }
 
 fn at(begin: u64, end: u64) -> Range {
@@ -218,10 +228,14 @@ fn read_u64(c: &mut Checks) {
 fn read_address(c: &mut Checks) {
     c.same(read(EIGHT, Little, |s| s.read_address(1)), (Ok(1), 7));
     c.same(read(EIGHT, Little, |s| s.read_address(2)), (Ok(0x0201), 6));
+    c.same(read(EIGHT, Little, |s| s.read_address(3)), (Ok(0x03_0201), 5));
+    c.same(read(EIGHT, Big, |s| s.read_address(3)), (Ok(0x01_0203), 5));
     c.same(read(EIGHT, Big, |s| s.read_address(4)), (Ok(0x0102_0304), 4));
     c.same(read(EIGHT, Little, |s| s.read_address(8)), (Ok(0x0807_0605_0403_0201), 0));
     c.same(read(&EIGHT[1..], Little, |s| s.read_address(8)), (Err(EOF), 7));
-    for size in [0, 3, 5, 9, 255] {
+    c.same(read(&EIGHT[6..], Little, |s| s.read_address(3)), (Err(EOF), 2));
+    c.same(read(&[], Big, |s| s.read_address(3)), (Err(EOF), 0));
+    for size in [0, 5, 6, 7, 9, 255] {
         let refused = Err(Error::UnsupportedAddressSize(size.into()));
         c.same(read(EIGHT, Little, |s| s.read_address(size)), (refused, 8));
         c.same(read(&[], Big, |s| s.read_address(size)), (refused, 0));
@@ -229,10 +243,10 @@ fn read_address(c: &mut Checks) {
 }
 
 fn read_address_size(c: &mut Checks) {
-    for size in [1, 2, 4, 8] {
+    for size in [1, 2, 3, 4, 8] {
         c.same(read(&[size, 9], Little, |s| s.read_address_size()), (Ok(size), 1));
     }
-    for size in [0, 3, 255] {
+    for size in [0, 5, 6, 7, 255] {
         let refused = Err(Error::UnsupportedAddressSize(size.into()));
         c.same(read(&[size], Little, |s| s.read_address_size()), (refused, 1));
     }
@@ -304,13 +318,15 @@ fn wrapping_add_sized(c: &mut Checks) {
     c.same(0xffff_ff00u64.wrapping_add_sized(0x110, 4), 0x10);
     c.same(0xf0u64.wrapping_add_sized(0x20, 1), 0x10);
     c.same(1u64.wrapping_add_sized(2, 2), 3);
+    c.same(0xff_ff00u64.wrapping_add_sized(0x110, 3), 0x10);
+    c.same(0xffff_fffeu64.wrapping_add_sized(1, 3), 0xff_ffff);
     c.same(u64::MAX.wrapping_add_sized(1, 8), 0);
     c.same(u64::MAX.wrapping_add_sized(1, 0), 0);
     c.same(5u64.wrapping_add_sized(6, 255), 11);
 }
 
 fn min_tombstone(c: &mut Checks) {
-    c.same([1, 2, 4].map(u64::min_tombstone), [0xfe, 0xfffe, 0xffff_fffe]);
+    c.same([1, 2, 3, 4].map(u64::min_tombstone), [0xfe, 0xfffe, 0xff_fffe, 0xffff_fffe]);
     c.same([8, 9, 255].map(u64::min_tombstone), [u64::MAX - 1; 3]);
     c.same(u64::min_tombstone(0), 0);
 }
@@ -335,12 +351,24 @@ fn get_address(c: &mut Checks) {
     c.same(address(8, 0, TWO_TO_61), Err(Error::UnsupportedOffset));
     c.same(address(8, 0, TWO_TO_61 - 1), Err(EOF));
     c.same(address(1, 0, u64::MAX), Err(EOF));
-    c.same(address(3, 8, 0), Err(Error::UnsupportedAddressSize(3)));
-    c.same(address(3, 8, 3), Err(EOF));
+    c.same(address(5, 8, 0), Err(Error::UnsupportedAddressSize(5)));
+    c.same(address(5, 8, 3), Err(EOF));
     c.same(address(0, 8, u64::MAX), Err(Error::UnsupportedAddressSize(0)));
     let big = DebugAddr::new(BIG_TABLE, Big);
     c.same(big.get_address(4, DebugAddrBase(8), DebugAddrIndex(1)), Ok(0x20));
     c.same(DebugAddr::default().get_address(4, DebugAddrBase(0), DebugAddrIndex(0)), Err(EOF));
+    let of_three = |section, endian, base, index| {
+        DebugAddr::new(section, endian).get_address(3, DebugAddrBase(base), DebugAddrIndex(index))
+    };
+    for (section, endian) in [(TABLE_3, Little), (BIG_TABLE_3, Big)] {
+        c.same([0, 1].map(|index| of_three(section, endian, 8, index)), [Ok(0x10), Ok(0x20)]);
+        c.same(of_three(section, endian, 8, 2), Err(EOF));
+        c.same(of_three(section, endian, 0, THIRD + 1), Err(Error::UnsupportedOffset));
+    }
+    c.same(of_three(EIGHT, Little, 2, 1), Ok(0x08_0706));
+    c.same(of_three(EIGHT, Big, 2, 1), Ok(0x06_0708));
+    c.same(of_three(&[], Little, 0, THIRD), Err(EOF));
+    c.same(of_three(&[], Little, 0, THIRD + 1), Err(Error::UnsupportedOffset));
 }
 
 /// The headers of a section: offset, length, encoding and base of each, and the refusals, up to
@@ -363,10 +391,16 @@ fn table_next(c: &mut Checks) {
     c.same(headers(&join(&[TABLE, &wide])), vec![first, Ok((16, 12, dwarf64(), 32))]);
     let odd = join(&[&[5, 0, 0, 0, 5, 0, 1, 0, 0xaa], TABLE]);
     c.same(headers(&odd), vec![Ok((0, 5, encoding(5, 1), 8)), Ok((9, 12, encoding(5, 4), 17))]);
+    c.same(
+        headers(&join(&[TABLE_3, TABLE])),
+        vec![Ok((0, 10, encoding(5, 3), 8)), Ok((14, 12, encoding(5, 4), 22))],
+    );
+    let wide_3 = join(&[&[0xff; 4], &[10, 0, 0, 0, 0, 0, 0, 0], &TABLE_3[4..]]);
+    c.same(headers(&wide_3), vec![Ok((0, 10, Encoding { address_size: 3, ..dwarf64() }, 16))]);
     c.same(headers(&[]), vec![]);
     c.same(headers(&join(&[TABLE, &TABLE[..15]])), vec![first, Err(EOF)]);
     c.same(headers(&[8, 0, 0, 0, 4, 0, 4, 0, 0, 0, 0, 0]), vec![Err(Error::UnknownVersion(4))]);
-    c.same(headers(&[4, 0, 0, 0, 5, 0, 3, 0]), vec![Err(Error::UnsupportedAddressSize(3))]);
+    c.same(headers(&[4, 0, 0, 0, 5, 0, 5, 0]), vec![Err(Error::UnsupportedAddressSize(5))]);
     c.same(headers(&[4, 0, 0, 0, 5, 0, 4, 1]), vec![Err(Error::UnsupportedSegmentSize(1))]);
     c.same(headers(&[3, 0, 0, 0, 5, 0, 4, 0]), vec![Err(EOF)]);
     c.same(
@@ -382,7 +416,9 @@ fn table_entry_next(c: &mut Checks) {
     let entries = |section, endian| {
         DebugAddr::new(section, endian).headers().next().unwrap().unwrap().entries()
     };
-    for (section, endian) in [(TABLE, Little), (BIG_TABLE, Big)] {
+    for (section, endian) in
+        [(TABLE, Little), (BIG_TABLE, Big), (TABLE_3, Little), (BIG_TABLE_3, Big)]
+    {
         let mut walk = entries(section, endian);
         c.same(walk.next(), Ok(Some(0x10)));
         c.same(walk.next(), Ok(Some(0x20)));
@@ -391,6 +427,10 @@ fn table_entry_next(c: &mut Checks) {
     }
     let mut short = entries(&[0x0a, 0, 0, 0, 5, 0, 4, 0, 0x10, 0, 0, 0, 0x20, 0, 0, 0], Little);
     c.same(short.next(), Ok(Some(0x10)));
+    c.same(short.next(), Err(EOF));
+    c.same(short.next(), Ok(None));
+    let mut short = entries(&[9, 0, 0, 0, 5, 0, 3, 0, 1, 2, 3, 4, 5, 6], Little);
+    c.same(short.next(), Ok(Some(0x03_0201)));
     c.same(short.next(), Err(EOF));
     c.same(short.next(), Ok(None));
 }
@@ -410,10 +450,14 @@ fn lists_header(c: &mut Checks) {
     c.same(parse(&big, Big), (Ok((encoding(5, 4), 1, 12)), vec![]));
     let wide = join(&[&[0xff; 4], &[9, 0, 0, 0, 0, 0, 0, 0, 5, 0, 8, 0, 3, 0, 0, 0, 0xaa]]);
     c.same(parse(&wide, Little), (Ok((dwarf64(), 3, 20)), vec![0xaa]));
+    let three = [8, 0, 0, 0, 5, 0, 3, 0, 0, 0, 0, 0];
+    c.same(parse(&three, Little), (Ok((encoding(5, 3), 0, 12)), vec![]));
+    let three = [0, 0, 0, 9, 0, 5, 3, 0, 0, 0, 0, 1, 0xaa];
+    c.same(parse(&three, Big), (Ok((encoding(5, 3), 1, 12)), vec![0xaa]));
     let bad = [8, 0, 0, 0, 4, 0, 4, 0, 0, 0, 0, 0];
     c.same(parse(&bad, Little), kept(&bad, Error::UnknownVersion(4)));
-    let bad = [8, 0, 0, 0, 5, 0, 3, 0, 0, 0, 0, 0];
-    c.same(parse(&bad, Little), kept(&bad, Error::UnsupportedAddressSize(3)));
+    let bad = [8, 0, 0, 0, 5, 0, 5, 0, 0, 0, 0, 0];
+    c.same(parse(&bad, Little), kept(&bad, Error::UnsupportedAddressSize(5)));
     let bad = [8, 0, 0, 0, 5, 0, 4, 1, 0, 0, 0, 0];
     c.same(parse(&bad, Little), kept(&bad, Error::UnsupportedSegmentSize(1)));
     let bad = [0xf0, 0xff, 0xff, 0xff];
@@ -485,7 +529,7 @@ fn range_lists(bytes: &[u8], endian: RunTimeEndian) -> RangeLists<'_> {
 }
 
 fn open_ranges<'a>(bytes: &'a [u8], encoding: Encoding, base_address: u64) -> RngListIter<'a> {
-    let table = DebugAddr::new(TABLE, Little);
+    let table = table_of(encoding.address_size);
     let lists = range_lists(bytes, Little);
     lists
         .ranges(RangeListsOffset(0), encoding, base_address, &table, DebugAddrBase(8))
@@ -518,7 +562,9 @@ fn range_open(c: &mut Checks) {
         c.same(open(&[], version, 4, 1), Err(EOF));
         c.same(open(&[0], version, 1, 1), Ok(None));
         c.same(open(&[], version, 8, u64::MAX), Err(EOF));
-        c.same(open(&[], version, 3, u64::MAX), Err(Error::UnsupportedAddressSize(3)));
+        c.same(open(&[0; 6], version, 3, 6), Ok(None));
+        c.same(open(&[], version, 3, 1), Err(EOF));
+        c.same(open(&[], version, 5, u64::MAX), Err(Error::UnsupportedAddressSize(5)));
     }
     let raw = range_lists(&[0], Little).raw_ranges(RangeListsOffset(2), encoding(5, 4));
     c.same(raw.map(|_| ()), Err(EOF));
@@ -564,6 +610,8 @@ fn section_of(c: &mut Checks) {
 
 /// 2^61 as LEB128: times 8 it is 2^64.
 const INDEX_2_61: [u8; 9] = [0x80, 0x80, 0x80, 0x80, 0x80, 0x80, 0x80, 0x80, 0x20];
+/// A third of 2^64 + 2 as LEB128.
+const PAST_THIRD: [u8; 9] = [0xd6, 0xaa, 0xd5, 0xaa, 0xd5, 0xaa, 0xd5, 0xaa, 0x55];
 
 fn range_next(c: &mut Checks) {
     let five = encoding(5, 4);
@@ -594,14 +642,36 @@ fn range_next(c: &mut Checks) {
         vec![Err(Error::BadUnsignedLeb128)],
     );
     c.same(ranges(&[], five, 0), vec![]);
-    let big = range_lists(&[3, 1, 8, 6, 0, 0, 0, 0x10, 0, 0, 0, 0x20, 0], Big);
-    let table = DebugAddr::new(BIG_TABLE, Big);
-    let mut walk =
-        big.ranges(RangeListsOffset(0), five, 0, &table, DebugAddrBase(8)).expect("an open list");
-    c.same(
-        (walk.next(), walk.next(), walk.next()),
-        (Ok(Some(at(0x20, 0x28))), Ok(Some(at(0x10, 0x20))), Ok(None)),
-    );
+    let three = encoding(5, 3);
+    c.same(ranges(&[6, 0x10, 0, 0, 0x20, 0, 0, 0], three, 0), vec![Ok(at(0x10, 0x20))]);
+    c.same(ranges(&[6, 1, 2, 3, 4, 5, 6], three, 0), vec![Ok(at(0x03_0201, 0x06_0504))]);
+    c.same(ranges(&[4, 0, 1, 0], three, 0xff_fffd), vec![Ok(at(0xff_fffd, 0xff_fffe))]);
+    c.same(ranges(&[4, 0, 1, 0], three, 0xff_fffe), vec![]);
+    c.same(ranges(&[4, 0x80, 2, 0x90, 2, 0], three, 0xff_ff00), vec![Ok(at(0, 0x10))]);
+    c.same(ranges(&[7, 0xf0, 0xff, 0xff, 0x0f, 0], three, 0), vec![Ok(at(0xff_fff0, 0xff_ffff))]);
+    c.same(ranges(&[7, 0xf0, 0xff, 0xff, 0x10, 0], three, 0), vec![]);
+    let bare = [0xff, 0xff, 0xff, 0, 0x20, 0, 1, 0, 0, 3, 0, 0, 0, 0, 0, 0, 0, 0];
+    c.same(ranges(&bare, encoding(4, 3), 0), vec![Ok(at(0x2001, 0x2003))]);
+    // No base selection: of 00ffff not all bits are set.
+    let bare = [0xff, 0xff, 0, 0xff, 0xff, 1];
+    c.same(ranges(&bare, encoding(4, 3), 0), vec![Ok(at(0xffff, 0x1_ffff))]);
+    c.same(ranges(&[6, 0x10, 0], three, 0), vec![Err(EOF)]);
+    c.same(ranges(&[2, 0, 2, 3, 0, 8, 0], three, 0), vec![Err(EOF), Ok(at(0x10, 0x18))]);
+    c.same(ranges(&[1, 1, 4, 0, 5, 0], three, 0), vec![Ok(at(0x20, 0x25))]);
+    let too_far = join(&[&[3], &PAST_THIRD, &[0, 0]]);
+    c.same(ranges(&too_far, three, 0), vec![Err(Error::UnsupportedOffset)]);
+    for (list, table, size) in [
+        (&[3, 1, 8, 6, 0, 0, 0, 0x10, 0, 0, 0, 0x20, 0][..], BIG_TABLE, 4),
+        (&[3, 1, 8, 6, 0, 0, 0x10, 0, 0, 0x20, 0], BIG_TABLE_3, 3),
+    ] {
+        let (big, table) = (range_lists(list, Big), DebugAddr::new(table, Big));
+        let walk = big.ranges(RangeListsOffset(0), encoding(5, size), 0, &table, DebugAddrBase(8));
+        let mut walk = walk.expect("an open list");
+        c.same(
+            (walk.next(), walk.next(), walk.next()),
+            (Ok(Some(at(0x20, 0x28))), Ok(Some(at(0x10, 0x20))), Ok(None)),
+        );
+    }
 }
 
 /// One entry of each kind, size 1, and the end mark.
@@ -639,6 +709,19 @@ fn range_next_raw(c: &mut Checks) {
     let pair = AddressOrOffsetPair { begin: 3, end: 5 };
     c.same(raw(&bare, encoding(4, 1)), (vec![Ok(BaseAddress { addr: 0x20 }), Ok(pair)], Ok(None)));
     c.same(raw(&[3, 5, 0], encoding(4, 1)), (vec![Ok(pair), Err(EOF)], Ok(None)));
+    let addr = 0x03_0201;
+    let three = [5, 1, 2, 3, 6, 1, 2, 3, 4, 5, 6, 7, 1, 2, 3, 0x80, 1, 6, 1, 2, 3, 4, 5];
+    let start_end = StartEnd { begin: addr, end: 0x06_0504 };
+    let start_length = StartLength { begin: addr, length: 0x80 };
+    c.same(
+        raw(&three, encoding(5, 3)),
+        (vec![Ok(BaseAddress { addr }), Ok(start_end), Ok(start_length), Err(EOF)], Ok(None)),
+    );
+    let bare = [0xff, 0xff, 0xff, 1, 2, 3, 3, 0, 0, 5, 0, 0, 0, 0, 0, 0, 0];
+    c.same(
+        raw(&bare, encoding(4, 3)),
+        (vec![Ok(BaseAddress { addr }), Ok(pair), Err(EOF)], Ok(None)),
+    );
     c.same(raw(&[8, 0], encoding(5, 1)), (vec![Err(Error::UnknownRangeListsEntry(8))], Ok(None)));
     c.same(
         raw(&[0xff], encoding(5, 1)),
@@ -680,6 +763,31 @@ fn range_convert_raw(c: &mut Checks) {
     // The place has not moved, and the base is the second address.
     c.same(walk.next(), Ok(Some(at(0x21, 0x22))));
     c.same(walk.next(), Ok(None));
+    let mut walk = open_ranges(&[0], encoding(5, 3), 0x100);
+    let pair = OffsetPair { begin: 0xff_ff00, end: 0xff_ff10 };
+    c.same(walk.convert_raw(pair), Ok(Some(at(0, 0x10))));
+    c.same(walk.convert_raw(BaseAddress { addr: 0xff_fffe }), Ok(None));
+    c.same(walk.convert_raw(OffsetPair { begin: 0x10, end: 0x20 }), Ok(None));
+    c.same(walk.convert_raw(BaseAddressx { addr: index(1) }), Ok(None));
+    c.same(walk.convert_raw(AddressOrOffsetPair { begin: 1, end: 2 }), Ok(Some(at(0x21, 0x22))));
+    let (begin, end) = (0xff_fffd, 0xff_ffff);
+    c.same(walk.convert_raw(StartEnd { begin, end }), Ok(Some(at(begin, end))));
+    c.same(walk.convert_raw(StartEnd { begin: begin + 1, end }), Ok(None));
+    c.same(walk.convert_raw(StartLength { begin, length: 2 }), Ok(Some(at(begin, end))));
+    c.same(walk.convert_raw(StartLength { begin, length: 3 }), Ok(None));
+    c.same(
+        walk.convert_raw(StartxEndx { begin: index(0), end: index(1) }),
+        Ok(Some(at(0x10, 0x20))),
+    );
+    c.same(walk.convert_raw(StartxEndx { begin: index(0), end: index(2) }), Err(EOF));
+    let length = 0xff_ffdf;
+    c.same(walk.convert_raw(StartxLength { begin: index(1), length }), Ok(Some(at(0x20, end))));
+    c.same(walk.convert_raw(StartxLength { begin: index(1), length: length + 1 }), Ok(None));
+    c.same(walk.convert_raw(StartxLength { begin: index(THIRD), length }), Err(EOF));
+    c.same(
+        walk.convert_raw(StartxLength { begin: index(THIRD + 1), length }),
+        Err(Error::UnsupportedOffset),
+    );
 }
 
 fn range_lookup(c: &mut Checks) {
@@ -700,9 +808,23 @@ fn range_lookup(c: &mut Checks) {
     c.same(lookup(0, 4, 0, 0), Ok(None));
     c.same(lookup(0, 4, 1, 0), Err(EOF));
     c.same(lookup(16, 5, u64::MAX, 0), Err(Error::UnsupportedAddressSize(5)));
-    let (big, table) = (range_lists(&[3, 0, 8, 0], Big), DebugAddr::new(BIG_TABLE, Big));
-    let got = big.lookup(RangeListsOffset(0), encoding(5, 4), 0, &table, DebugAddrBase(8), 0x10);
-    c.same(got, Ok(Some(at(0x10, 0x18))));
+    for (table, size) in [(BIG_TABLE, 4), (BIG_TABLE_3, 3)] {
+        let (big, table) = (range_lists(&[3, 0, 8, 0], Big), DebugAddr::new(table, Big));
+        let (offset, encoding) = (RangeListsOffset(0), encoding(5, size));
+        let got = big.lookup(offset, encoding, 0, &table, DebugAddrBase(8), 0x10);
+        c.same(got, Ok(Some(at(0x10, 0x18))));
+    }
+    let three = [7, 1, 2, 3, 8, 3, 1, 8, 7, 0xf0, 0xff, 0xff, 0x10, 6, 0x10, 0];
+    let lookup = |end, offset, address| {
+        let (lists, table) = (range_lists(&three[..end], Little), table_of(3));
+        let (offset, base) = (RangeListsOffset(offset), DebugAddrBase(8));
+        lists.lookup(offset, encoding(5, 3), 0, &table, base, address)
+    };
+    c.same(lookup(16, 0, 0x03_0208), Ok(Some(at(0x03_0201, 0x03_0209))));
+    c.same(lookup(16, 0, 0x27), Ok(Some(at(0x20, 0x28))));
+    c.same(lookup(13, 0, 0xff_fff0), Ok(None));
+    c.same(lookup(16, 0, 0x03_0209), Err(EOF));
+    c.same(lookup(0, 1, 0), Err(EOF));
     let bare = range_lists(&[1, 3, 0, 0], Little);
     let none = DebugAddr::default();
     let got = bare.lookup(RangeListsOffset(0), encoding(4, 1), 0x40, &none, DebugAddrBase(8), 0x42);
@@ -722,7 +844,7 @@ fn open_locations<'a>(
     split: bool,
     base_address: u64,
 ) -> LocListIter<'a> {
-    let (lists, table) = (location_lists(bytes, Little), DebugAddr::new(TABLE, Little));
+    let (lists, table) = (location_lists(bytes, Little), table_of(encoding.address_size));
     let (offset, base) = (LocationListsOffset(0), DebugAddrBase(8));
     let walk = if split {
         lists.locations_dwo(offset, encoding, base_address, &table, base)
@@ -768,6 +890,8 @@ fn location_open(c: &mut Checks) {
         c.same(open(&[], version, 4, 1, split), Err(EOF));
         c.same(open(&[0], version, 1, 1, split), Ok(None));
         c.same(open(&[], version, 8, u64::MAX, split), Err(EOF));
+        c.same(open(&[0; 6], version, 3, 6, split), Ok(None));
+        c.same(open(&[], version, 3, 1, split), Err(EOF));
         c.same(open(&[], version, 0, u64::MAX, split), Err(Error::UnsupportedAddressSize(0)));
     }
     let lists = location_lists(&[0], Little);
@@ -813,6 +937,36 @@ fn location_next(c: &mut Checks) {
     let too_far = join(&[&[3], &INDEX_2_61, &[0, 0]]);
     c.same(locations(&too_far, encoding(5, 8), false, 0), vec![Err(Error::UnsupportedOffset)]);
     c.same(locations(&[], five, false, 0), vec![]);
+    let (three, old_three) = (encoding(5, 3), encoding(4, 3));
+    c.same(
+        locations(&[7, 1, 2, 3, 4, 5, 6, 1, 0x50, 0], three, false, 0),
+        vec![Ok((at(0x03_0201, 0x06_0504), x, 8))],
+    );
+    c.same(
+        locations(&[8, 0xf0, 0xff, 0xff, 0x0f, 1, 0x50, 0], three, false, 0),
+        vec![Ok((at(0xff_fff0, 0xff_ffff), x, 6))],
+    );
+    c.same(locations(&[8, 0xf0, 0xff, 0xff, 0x10, 1, 0x50, 0], three, false, 0), vec![]);
+    c.same(
+        locations(&[4, 0, 1, 1, 0x50, 0], three, false, 0xff_fffd),
+        vec![Ok((at(0xff_fffd, 0xff_fffe), x, 4))],
+    );
+    c.same(locations(&[4, 0, 1, 1, 0x50, 0], three, false, 0xff_fffe), vec![]);
+    c.same(locations(&[5, 1, 0x50, 0], three, false, 0), vec![Ok((at(0, u64::MAX), x, 2))]);
+    let bare = [0xff, 0xff, 0xff, 0x10, 0x20, 0x30, 1, 0, 0, 3, 0, 0, 1, 0, 0x50, 0, 0, 0, 0, 0, 0];
+    c.same(locations(&bare, old_three, false, 0), vec![Ok((at(0x30_2011, 0x30_2013), x, 14))]);
+    c.same(locations(&gnu, old_three, true, 0), vec![Ok((at(0x10, 0x18), x, 8))]);
+    c.same(
+        locations(&[6, 0x10, 0x20, 0x30, 4, 1, 2, 1, 0, 0x50, 0], old_three, true, 0),
+        vec![Ok((at(0x30_2011, 0x30_2012), x, 9))],
+    );
+    c.same(
+        locations(&[2, 0, 2, 0, 2, 0, 1, 1, 0x50, 0], three, false, 0),
+        vec![Err(EOF), Ok((at(0x10, 0x20), x, 8))],
+    );
+    c.same(locations(&[7, 0x10, 0], three, false, 0), vec![Err(EOF)]);
+    let too_far = join(&[&[3], &PAST_THIRD, &[0, 0]]);
+    c.same(locations(&too_far, three, false, 0), vec![Err(Error::UnsupportedOffset)]);
 }
 
 /// One entry of each kind, size 1, and the end mark.
@@ -878,6 +1032,24 @@ fn location_next_raw(c: &mut Checks) {
         vec![Ok((6, 0x20, 0, none, 0)), Ok((0, 3, 5, &[0x50], 6))],
     );
     c.same(raw(&[3, 5, 1], encoding(4, 1), false), vec![Err(EOF)]);
+    let three = &[6, 1, 2, 3, 7, 1, 2, 3, 4, 5, 6, 0, 8, 1, 2, 3, 9, 0, 8, 1, 2];
+    c.same(
+        raw(three, encoding(5, 3), false),
+        vec![
+            Ok((6, 0x03_0201, 0, none, 0)),
+            Ok((7, 0x03_0201, 0x06_0504, none, 12)),
+            Ok((8, 0x03_0201, 9, none, 18)),
+            Err(EOF),
+        ],
+    );
+    c.same(
+        raw(&[8, 1, 2, 3, 9, 1, 0, 0x50], encoding(4, 3), true),
+        vec![Ok((8, 0x03_0201, 9, &[0x50], 7))],
+    );
+    c.same(
+        raw(&[0xff, 0xff, 0xff, 1, 2, 3, 4, 5, 6, 7, 8, 9, 0, 0, 0, 0], encoding(4, 3), false),
+        vec![Ok((6, 0x03_0201, 0, none, 0)), Ok((0, 0x06_0504, 0x09_0807, none, 14)), Err(EOF)],
+    );
     c.same(raw(&[9], encoding(5, 1), false), vec![Err(Error::UnknownLocListsEntry(9))]);
     c.same(raw(&[], encoding(5, 1), true), vec![]);
 }
@@ -911,6 +1083,28 @@ fn location_convert_raw(c: &mut Checks) {
     let raw = walk.next_raw().unwrap().unwrap();
     c.same(walk.convert_raw(raw).map(|l| l.map(told)), Ok(Some((at(0x21, 0x22), &[0x50][..], 4))));
     c.same(walk.next(), Ok(None));
+    let mut walk = open_locations(&[0], encoding(5, 3), false, 0x100);
+    let pair = OffsetPair { begin: 0xff_ff00, end: 0xff_ff10, data };
+    c.same(walk.convert_raw(pair), found(0, 0x10));
+    c.same(walk.convert_raw(BaseAddress { addr: 0xff_fffe }), Ok(None));
+    c.same(walk.convert_raw(OffsetPair { begin: 0x10, end: 0x20, data }), Ok(None));
+    c.same(walk.convert_raw(BaseAddressx { addr: index(1) }), Ok(None));
+    c.same(walk.convert_raw(AddressOrOffsetPair { begin: 1, end: 2, data }), found(0x21, 0x22));
+    let (begin, end) = (0xff_fffd, 0xff_ffff);
+    c.same(walk.convert_raw(StartEnd { begin, end, data }), found(begin, end));
+    c.same(walk.convert_raw(StartEnd { begin: begin + 1, end, data }), Ok(None));
+    c.same(walk.convert_raw(StartLength { begin, length: 2, data }), found(begin, end));
+    c.same(walk.convert_raw(StartLength { begin, length: 3, data }), Ok(None));
+    c.same(
+        walk.convert_raw(StartxEndx { begin: index(0), end: index(1), data }),
+        found(0x10, 0x20),
+    );
+    c.same(walk.convert_raw(StartxLength { begin: index(2), length: 1, data }), Err(EOF));
+    c.same(walk.convert_raw(DefaultLocation { data }), found(0, u64::MAX));
+    c.same(
+        walk.convert_raw(StartxLength { begin: index(THIRD + 1), length: 1, data }),
+        Err(Error::UnsupportedOffset),
+    );
 }
 
 fn expression(c: &mut Checks) {
@@ -954,6 +1148,24 @@ fn location_lookup(c: &mut Checks) {
     let found = |address| lists.lookup(offset, four, DwarfFileType::Dwo, 0, &table, base, address);
     c.same(found(0x12).map(|l| l.map(told)), Ok(Some((at(0x10, 0x18), &gnu[8..9], 8))));
     c.same(found(0x18), Ok(None));
+    let (four, table) = (encoding(4, 3), table_of(3));
+    let found = |address| lists.lookup(offset, four, DwarfFileType::Dwo, 0, &table, base, address);
+    c.same(found(0x12).map(|l| l.map(told)), Ok(Some((at(0x10, 0x18), &gnu[8..9], 8))));
+    c.same(found(0x18), Ok(None));
+    let bytes = [8, 1, 2, 3, 8, 1, 0x50, 4, 1, 2, 1, 0x51, 7, 0x10, 0];
+    let lookup = |endian, offset, address| {
+        let (lists, table) = (location_lists(&bytes, endian), DebugAddr::default());
+        let (offset, main) = (LocationListsOffset(offset), DwarfFileType::Main);
+        lists
+            .lookup(offset, encoding(5, 3), main, 0x100, &table, base, address)
+            .map(|l| l.map(told))
+    };
+    let x = &bytes[6..7];
+    c.same(lookup(Little, 0, 0x03_0208), Ok(Some((at(0x03_0201, 0x03_0209), x, 6))));
+    c.same(lookup(Big, 0, 0x01_020a), Ok(Some((at(0x01_0203, 0x01_020b), x, 6))));
+    c.same(lookup(Little, 0, 0x101), Ok(Some((at(0x101, 0x102), &bytes[11..12], 11))));
+    c.same(lookup(Little, 0, 0x03_0209), Err(EOF));
+    c.same(lookup(Little, 16, 0), Err(EOF));
 }
 
 // Coverage, sheets, canonical lists
@@ -969,14 +1181,18 @@ fn apart(n: usize) -> Vec<u8> {
 
 /// The scope's two ranges that touch: 0x20 to 0x30 and 0x10 to 0x20.
 const TOUCHING: &[u8] = &[7, 0x20, 0, 0, 0, 0x10, 7, 0x10, 0, 0, 0, 0x10, 0];
+/// The same with addresses of three bytes.
+const TOUCHING_3: &[u8] = &[7, 0x20, 0, 0, 0x10, 7, 0x10, 0, 0, 0x10, 0];
 /// Their canonical list.
 const TOUCHING_CANONICAL: &[u8] = &[7, 0x10, 0, 0, 0, 0, 0, 0, 0, 0x20, 0];
+/// The canonical list of 030201 to 060504, whose bytes all differ.
+const THREE_CANONICAL: &[u8] = &[7, 1, 2, 3, 0, 0, 0, 0, 0, 0x83, 0x86, 0x0c, 0];
 /// Their sheet.
 const TOUCHING_SHEET: &[u8] = &[1, 0, 8, 0, 0x10, 0, 0, 0, 0, 0, 0, 0, 0x30, 0, 0, 0, 0, 0, 0, 0];
 
 fn range_coverage(c: &mut Checks) {
     let cover = |bytes: &[u8], size, offset| {
-        let table = DebugAddr::new(TABLE, Little);
+        let table = table_of(size);
         let lists =
             RangeLists::new(DebugRanges::new(bytes, Little), DebugRngLists::new(bytes, Little));
         is(lists.coverage(RangeListsOffset(offset), encoding(5, size), 0, &table, DebugAddrBase(8)))
@@ -997,7 +1213,15 @@ fn range_coverage(c: &mut Checks) {
     c.same(cover(&join(&[&apart(LIMIT), &[8]]), 4, 0), Err(Error::UnknownRangeListsEntry(8)));
     c.same(cover(&[2, 0, 2, 0], 4, 0), Err(EOF));
     c.same(cover(TOUCHING, 4, u64::MAX), Err(EOF));
-    c.same(cover(TOUCHING, 3, u64::MAX), Err(Error::UnsupportedAddressSize(3)));
+    c.same(cover(TOUCHING, 5, u64::MAX), Err(Error::UnsupportedAddressSize(5)));
+    c.same(cover(TOUCHING_3, 3, 0), Ok(vec![at(0x10, 0x30)]));
+    c.same(cover(&[3, 1, 8, 3, 0, 4, 0], 3, 0), Ok(vec![at(0x10, 0x14), at(0x20, 0x28)]));
+    let all = [7, 0, 0, 0, 0xff, 0xff, 0xff, 7, 0];
+    c.same(cover(&all, 3, 0), Ok(vec![at(0, 0xff_ffff)]));
+    c.same(cover(&[6, 1, 2, 3, 4, 5, 6], 3, 0), Ok(vec![at(0x03_0201, 0x06_0504)]));
+    c.same(cover(&[7, 0xf0, 0xff, 0xff, 0x10, 0], 3, 0), Ok(vec![]));
+    c.same(cover(&[6, 0x10, 0], 3, 0), Err(EOF));
+    c.same(cover(&[], 3, 1), Err(EOF));
 }
 
 fn location_coverage(c: &mut Checks) {
@@ -1030,6 +1254,18 @@ fn location_coverage(c: &mut Checks) {
     let (offset, five, base) = (LocationListsOffset(1), encoding(5, 4), DebugAddrBase(0));
     let coverage = lists.coverage(offset, five, main, 0x100, &none, base);
     c.same(is(coverage), Ok(vec![at(0x101, 0x102)]));
+    let of_three = |bytes: &[u8], version, file| {
+        let (lists, table) = (location_lists(bytes, Little), table_of(3));
+        let (offset, encoding) = (LocationListsOffset(0), encoding(version, 3));
+        is(lists.coverage(offset, encoding, file, 0, &table, DebugAddrBase(8)))
+    };
+    c.same(
+        of_three(&[8, 0x20, 0, 0, 0x10, 0, 7, 0x10, 0, 0, 0x20, 0, 0, 1, 0x50, 0], 5, main),
+        Ok(vec![at(0x10, 0x30)]),
+    );
+    c.same(of_three(&[1, 2, 3, 4, 5, 6, 0, 0], 4, main), Ok(vec![at(0x03_0201, 0x06_0504)]));
+    c.same(of_three(&[3, 0, 8, 0, 0, 0, 1, 0, 0x50, 0], 4, dwo), Ok(vec![at(0x10, 0x18)]));
+    c.same(of_three(&[7, 0x10, 0], 5, main), Err(EOF));
 }
 
 fn coverage_from_canonical(c: &mut Checks) {
@@ -1139,7 +1375,7 @@ fn canonical(c: &mut Checks) {
 
 fn range_canonical(c: &mut Checks) {
     let write = |bytes: &[u8], size, offset, len| {
-        let table = DebugAddr::new(TABLE, Little);
+        let table = table_of(size);
         let lists = RangeLists::new(DebugRanges::default(), DebugRngLists::new(bytes, Little));
         let (offset, encoding, base) =
             (RangeListsOffset(offset), encoding(5, size), DebugAddrBase(8));
@@ -1162,6 +1398,20 @@ fn range_canonical(c: &mut Checks) {
     c.same(write(TOUCHING, 0, u64::MAX, 16), untouched(16, Error::UnsupportedAddressSize(0)));
     let (full, all) = (write(&apart(LIMIT), 4, 0, CANONICAL_MAX), 10 * LIMIT + 1);
     c.same((full.0, full.1[all - 1], full.1[all]), (Ok(all), 0, 0xee));
+    for list in [TOUCHING_3, &[3, 0, 0x20, 0]] {
+        c.same(write(list, 3, 0, 11), (Ok(11), TOUCHING_CANONICAL.to_vec()));
+    }
+    // The same addresses in three sizes.
+    for (size, list) in [
+        (3, &[6, 1, 2, 3, 4, 5, 6, 0][..]),
+        (4, &[6, 1, 2, 3, 0, 4, 5, 6, 0, 0]),
+        (8, &[6, 1, 2, 3, 0, 0, 0, 0, 0, 4, 5, 6, 0, 0, 0, 0, 0, 0]),
+    ] {
+        c.same(write(list, size, 0, 13), (Ok(13), THREE_CANONICAL.to_vec()));
+        c.same(write(list, size, 0, 12), untouched(12, Error::NoSpace));
+    }
+    c.same(write(&[6, 0x10, 0], 3, 0, 16), untouched(16, EOF));
+    c.same(write(&[], 3, 1, 16), untouched(16, EOF));
 }
 
 fn location_canonical(c: &mut Checks) {
@@ -1187,6 +1437,21 @@ fn location_canonical(c: &mut Checks) {
     c.same(write(&[9], 5, main, 0, 0), untouched(0, Error::UnknownLocListsEntry(9)));
     c.same(write(&gnu, 4, dwo, u64::MAX, 16), untouched(16, EOF));
     c.same(write(&[5, 0].repeat(LIMIT + 1), 5, main, 0, 16), untouched(16, Error::TooManyRanges));
+    let of_three = |bytes: &[u8], version, file| {
+        let (lists, table) = (location_lists(bytes, Little), table_of(3));
+        let (offset, encoding, base) =
+            (LocationListsOffset(0), encoding(version, 3), DebugAddrBase(8));
+        into(16, |o| {
+            lists
+                .canonical(offset, encoding, file, 0, &table, base, o)
+                .map(|list| list.bytes().len())
+        })
+    };
+    let three = (Ok(13), join(&[THREE_CANONICAL, &[0xee; 3]]));
+    c.same(of_three(&gnu, 4, dwo), (Ok(11), join(&[TOUCHING_CANONICAL, &[0xee; 5]])));
+    c.same(of_three(&[7, 1, 2, 3, 4, 5, 6, 1, 0x50, 0], 5, main), three.clone());
+    c.same(of_three(&[1, 2, 3, 4, 5, 6, 0, 0], 4, main), three);
+    c.same(of_three(&[7, 0x10, 0], 5, main), untouched(16, EOF));
 }
 
 fn is_canonical(c: &mut Checks) {
@@ -1249,7 +1514,7 @@ fn byte_orders(c: &mut Checks) {
         c.same(output, [0xee; 16]);
         // Before every refusal of the library.
         let nowhere = RangeListsOffset(u64::MAX);
-        c.same(ranges.lookup(nowhere, encoding(5, 3), 0, &table, base, 0), Err(mixed));
+        c.same(ranges.lookup(nowhere, encoding(5, 5), 0, &table, base, 0), Err(mixed));
         let found = Ok(Some(at(0x10, 0x18)));
         c.same(ranges.lookup(at_0, five, 0, &DebugAddr::new(own, endian), base, 0x10), found);
         let empty = DebugAddr::new(&[], other);
@@ -1326,7 +1591,7 @@ fn ends(c: &mut Checks) {
                 locations.raw_locations_dwo(l_at_0, encoding).map(items),
             ];
             for items in walks {
-                if [1, 2, 4, 8].contains(&size) {
+                if [1, 2, 3, 4, 8].contains(&size) {
                     c.same(items.is_ok_and(|items| items <= bytes.len()), true);
                 } else {
                     c.same(items, Err(Error::UnsupportedAddressSize(size.into())));

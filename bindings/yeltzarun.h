@@ -78,7 +78,7 @@ typedef enum yz_refusal {
     YZ_UNKNOWN_RANGE_LISTS_ENTRY = 3, /* a range kind above 7; the kind */
     YZ_UNKNOWN_LOC_LISTS_ENTRY = 4,   /* a location kind above 8; the kind */
     YZ_UNKNOWN_VERSION = 5,           /* a header's version is not 5; the version */
-    YZ_UNSUPPORTED_ADDRESS_SIZE = 6,  /* not 1, 2, 4 or 8; the size */
+    YZ_UNSUPPORTED_ADDRESS_SIZE = 6,  /* not 1, 2, 3, 4 or 8; the size */
     YZ_UNSUPPORTED_SEGMENT_SIZE = 7,  /* not 0; the size */
     YZ_UNKNOWN_RESERVED_LENGTH = 8,   /* an initial length from 0xfffffff0 to 0xfffffffe; the length */
     YZ_UNSUPPORTED_OFFSET = 9,        /* a product or a sum is at or above 2^64 */
@@ -110,7 +110,7 @@ static inline const char *yz_refusal_name(yz_refusal refusal) {
 /* How a unit is written. */
 typedef struct yz_encoding {
     uint16_t version;     /* up to 4 bare pairs, from 5 on entries with kinds */
-    uint8_t address_size; /* 1, 2, 4 or 8; every other size is refused with 6 */
+    uint8_t address_size; /* 1, 2, 3, 4 or 8; every other size is refused with 6 */
     bool dwarf64;         /* the 64-bit format */
     uint32_t big_endian;  /* the byte order of its sections: 0 the lowest byte first, any other number the highest */
 } yz_encoding;

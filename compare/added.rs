@@ -1,11 +1,13 @@
 //! Compares the calls that gimli has no match for: coverage, sheets, canonical
 //! lists. Beside them stands a plain version, written for the purpose: gimli's
-//! walk gathered in a vector, sorted and merged, and the scope's bytes.
+//! walk, or the model's at size 3, gathered in a vector, sorted and merged, and
+//! the scope's bytes.
 
-use generator::Random;
+use generator::{READ, Random};
 use oracle::oracle_api::*;
 
 use crate::differ::{Met, Port};
+use crate::measure::Walk;
 
 /// How many ranges a coverage holds, and the walk that makes one may yield.
 pub const MOST: usize = crate::port::LIMIT;
@@ -36,10 +38,10 @@ pub fn no<T>(number: u8) -> Result<T, Refusal> {
     Err(Refusal { number, value: 0 })
 }
 
-/// Every range of gimli's walk, sorted and merged. Opening's refusals come
-/// first, 6 before 1; then the first of the walk's and 10.
+/// Every range of the walk, sorted and merged. Opening's refusals come first, 6
+/// before 1; then the first of the walk's and 10.
 pub fn coverage(list: &List) -> Result<Ranges, Refusal> {
-    if ![1, 2, 4, 8].contains(&list.address_size) {
+    if !READ.contains(&list.address_size) {
         return Err(Refusal { number: 6, value: u64::from(list.address_size) });
     }
     let mut walk = Walk::open(list)?;
@@ -250,7 +252,18 @@ pub fn list(
     all: bool,
     met: &mut Met,
 ) -> Result<(), String> {
-    let plain = coverage(list);
+    covering(port, list, coverage(list), r, all, met)
+}
+
+/// The same of a list whose coverage is known.
+pub fn covering(
+    port: &impl Added,
+    list: &List,
+    plain: Result<Ranges, Refusal>,
+    r: &mut Random,
+    all: bool,
+    met: &mut Met,
+) -> Result<(), String> {
     made(met, "coverage", &plain, r, |kept| port.coverage(list, kept))?;
     let bytes = plain.as_ref().map(canonical).map_err(|refusal| *refusal);
     for length in lengths(r, &bytes, all) {

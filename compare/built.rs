@@ -11,10 +11,7 @@ use crate::differ::{Met, list_of};
 pub fn compare(port: &impl Added, seed: u64, met: &mut Met) -> Result<(), String> {
     let r = &mut Random::new(seed ^ 0x6275_696c_74);
     match seed % 8 {
-        0..=3 => {
-            let case = list_case(r);
-            added::list(port, &list_of(&case), r, true, met)
-        }
+        0..=3 => list(port, r, &[1, 2, 4, 4, 8, 8, 8], met),
         4 | 5 => {
             let (n, kept) = by_hand(r);
             added::handed_in(port, n, &kept, r, true, met)
@@ -22,6 +19,12 @@ pub fn compare(port: &impl Added, seed: u64, met: &mut Met) -> Result<(), String
         6 => sheets(port, r, met),
         _ => canonicals(port, r, met),
     }
+}
+
+/// All calls about a list of one of the sizes.
+pub fn list(port: &impl Added, r: &mut Random, sizes: &[u8], met: &mut Met) -> Result<(), String> {
+    let case = list_case(r, sizes);
+    met.measured_at(case.address_size, |met| added::list(port, &list_of(&case), r, true, met))
 }
 
 /// How many ranges: few, some, or around the most that are held.
@@ -196,8 +199,8 @@ impl Writer<'_> {
 
 /// A list of many ranges, with entries that yield nothing between them, and
 /// now and then one that is refused at or near its end.
-fn list_case(r: &mut Random) -> ListCase {
-    let address_size = r.pick(&[1, 2, 4, 4, 8, 8, 8]);
+fn list_case(r: &mut Random, sizes: &[u8]) -> ListCase {
+    let address_size = r.pick(sizes);
     let mut list = ListCase {
         kind: r.pick(&generator::KINDS),
         old: Vec::new(),

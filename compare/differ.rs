@@ -2,15 +2,18 @@
 //! that answers the calls of `Port`; cases come from the generator. Left out
 //! are the scope's listed differences: walks with other address sizes, and
 //! list offsets whose sum passes 2^64. They are counted, and the reader is
-//! held to the page there.
+//! held to the page there. Where gimli refuses size 3 the reader is held to the
+//! model, and the calls are counted apart, too.
 
 use std::collections::BTreeMap;
 use std::fmt::Debug;
 
-use generator::{Case, ConvertCase, ListCase, Random};
+use generator::{Case, ConvertCase, ListCase, READ, Random};
 use oracle::oracle_api::{self as gimli, *};
 
 use crate::added::{self, Added};
+use crate::measure::{Tables, Walk, gimli_reads};
+use crate::model::Model;
 
 /// The first entry whose range holds an address, "not there", or a refusal.
 pub type Found = Answer<Yielded>;
@@ -90,11 +93,12 @@ fn holds(entry: &Yielded, address: u64) -> bool {
     entry.begin <= address && address < entry.end
 }
 
-/// How often each thing was met, by name, how many calls were compared, and
-/// how many were left out.
+/// How often each thing was met, by name, how many calls were compared, how
+/// many at size 3 with the model, and how many were left out.
 #[derive(Default)]
 pub struct Met {
     pub calls: u64,
+    pub with_model: u64,
     pub left_out: u64,
     pub names: BTreeMap<String, u64>,
 }
@@ -102,6 +106,7 @@ pub struct Met {
 impl Met {
     pub fn join(&mut self, other: Met) {
         self.calls += other.calls;
+        self.with_model += other.with_model;
         self.left_out += other.left_out;
         for (name, count) in other.names {
             *self.names.entry(name).or_default() += count;
@@ -124,6 +129,48 @@ impl Met {
             return Ok(());
         }
         Err(format!("{call}: oracle {oracle:x?}, port {port:x?}"))
+    }
+
+    /// Counts apart what `compare` compares, where the model is the measure.
+    fn measured(
+        &mut self,
+        by_model: bool,
+        compare: impl FnOnce(&mut Met) -> Result<(), String>,
+    ) -> Result<(), String> {
+        let before = self.calls;
+        let compared = compare(self);
+        if by_model {
+            self.with_model += self.calls - before;
+            self.calls = before;
+        }
+        compared
+    }
+
+    /// The same for calls about a list, by its address size.
+    pub fn measured_at(
+        &mut self,
+        size: u8,
+        compare: impl FnOnce(&mut Met) -> Result<(), String>,
+    ) -> Result<(), String> {
+        self.measured(!gimli_reads(size), compare)
+    }
+
+    /// A call that gimli refuses where it meets size 3: the model's answer then.
+    fn sized<T: Copy + PartialEq + Debug>(
+        &mut self,
+        name: &str,
+        oracle: Result<T, Refusal>,
+        port: &impl Port,
+        call: impl Fn(&dyn Port) -> Result<T, Refusal>,
+    ) -> Result<(), String> {
+        let by_model = oracle == Err(THREE);
+        let (measure, name) = if by_model {
+            (call(&Model), format!("{name}, size 3"))
+        } else {
+            (oracle, name.into())
+        };
+        count(self, &name, measure.err());
+        self.measured(by_model, |met| met.same(&name, &measure, &call(port)))
     }
 
     /// A call that is left out: not gimli's answer but the page's.
@@ -174,23 +221,27 @@ pub fn compare(port: &impl Added, case: &Case, seed: u64, met: &mut Met) -> Resu
             if Random::new(seed ^ OTHER_SIZE).one_in(1, 64) {
                 other_size(port, &list, seed, met)?;
             }
-            walk(port, &list, seed, met)?;
-            lookups(port, &list, seed, met)?;
-            added::list(port, &list, &mut Random::new(seed.rotate_left(16)), false, met)
+            met.measured_at(list.address_size, |met| {
+                walk(port, &list, seed, met)?;
+                lookups(port, &list, seed, met)?;
+                added::list(port, &list, &mut Random::new(seed.rotate_left(16)), false, met)
+            })
         }
-        Case::Convert(case) => convert(port, case, met),
+        Case::Convert(case) => {
+            met.measured_at(case.list.address_size, |met| convert(port, case, met))
+        }
         Case::Address(c) => {
-            let oracle =
-                gimli::get_address(&c.table, c.big_endian, c.address_size, c.base, c.index);
-            let got = port.get_address(&c.table, c.big_endian, c.address_size, c.base, c.index);
-            count(met, "get_address", oracle.err());
-            met.same("get_address", &oracle, &got)
+            let (t, big, size) = (&c.table, c.big_endian, c.address_size);
+            let oracle = gimli::get_address(t, big, size, c.base, c.index);
+            met.sized("get_address", oracle, port, |port| {
+                port.get_address(t, big, size, c.base, c.index)
+            })
         }
         Case::Tables(case) => tables(port, &case.section, case.big_endian, met),
         Case::Lists(case) => {
-            let oracle = gimli::lists_header(&case.section, case.big_endian);
-            count(met, "lists header", oracle.err());
-            met.same("lists header", &oracle, &port.lists_header(&case.section, case.big_endian))
+            let (s, big) = (&case.section, case.big_endian);
+            let oracle = gimli::lists_header(s, big);
+            met.sized("lists header", oracle, port, |port| port.lists_header(s, big))
         }
         Case::Offset(c) => {
             let kind = kind_of(c.kind);
@@ -215,11 +266,13 @@ pub fn compare(port: &impl Added, case: &Case, seed: u64, met: &mut Met) -> Resu
         }
         Case::Bytes(c) => {
             let (b, big, n) = (&c.bytes, c.big_endian, c.count);
-            let number = gimli::read_number(b, big, c.width);
-            met.same("read_number", &number, &port.read_number(b, big, c.width))?;
+            if c.width != 3 {
+                let number = gimli::read_number(b, big, c.width);
+                met.same("read_number", &number, &port.read_number(b, big, c.width))?;
+            }
             for size in [c.width, n as u8] {
                 let oracle = gimli::read_address(b, big, size);
-                met.same("read_address", &oracle, &port.read_address(b, big, size))?;
+                met.sized("read_address", oracle, port, |port| port.read_address(b, big, size))?;
             }
             let initial = gimli::initial_length(b, big);
             count(met, "initial length", initial.err());
@@ -228,11 +281,8 @@ pub fn compare(port: &impl Added, case: &Case, seed: u64, met: &mut Met) -> Resu
                 let oracle = gimli::read_offset(b, big, dwarf64);
                 met.same("read_offset", &oracle, &port.read_offset(b, big, dwarf64))?;
             }
-            met.same(
-                "read_address_size",
-                &gimli::read_address_size(b),
-                &port.read_address_size(b),
-            )?;
+            let size = gimli::read_address_size(b);
+            met.sized("read_address_size", size, port, |port| port.read_address_size(b))?;
             met.same("skip", &gimli::skip(b, n), &port.skip(b, n))?;
             met.same("split", &gimli::split(b, n), &port.split(b, n))?;
             met.same("truncate", &gimli::truncate(b, n), &port.truncate(b, n))
@@ -261,6 +311,10 @@ fn count_answer<T>(met: &mut Met, call: &str, answer: &Answer<T>) {
     }
 }
 
+pub fn kind_and_version(list: &List) -> String {
+    format!("{:?} {}", list.kind, if list.version <= 4 { "to 4" } else { "from 5" })
+}
+
 /// Walks a list: `next`, or `next_raw` and `convert_raw`, or both by turns;
 /// after the end three calls more.
 pub fn walk(port: &impl Port, list: &List, seed: u64, met: &mut Met) -> Result<(), String> {
@@ -277,7 +331,7 @@ pub fn walk(port: &impl Port, list: &List, seed: u64, met: &mut Met) -> Result<(
     met.same("walk opened", &oracle.state(), &state)?;
     let r = &mut Random::new(!seed);
     let style = r.below(3);
-    let what = format!("{:?} {}", list.kind, if list.version <= 4 { "to 4" } else { "from 5" });
+    let what = kind_and_version(list);
     let mut ends = 0;
     while ends < 4 {
         if style == 0 || style == 2 && r.one_in(1, 2) {
@@ -317,7 +371,7 @@ const OTHER_SIZE: u64 = 0x6f74686572;
 fn other_size(port: &impl Added, list: &List, seed: u64, met: &mut Met) -> Result<(), String> {
     let r = &mut Random::new(seed ^ OTHER_SIZE ^ !0);
     let mut size = r.next() as u8;
-    while [1, 2, 4, 8].contains(&size) {
+    while READ.contains(&size) {
         size = size.wrapping_add(3);
     }
     let list = &List { address_size: size, ..*list };
@@ -342,7 +396,7 @@ fn other_size(port: &impl Added, list: &List, seed: u64, met: &mut Met) -> Resul
 /// that holds the address is the answer.
 fn lookups(port: &impl Port, list: &List, seed: u64, met: &mut Met) -> Result<(), String> {
     let r = &mut Random::new(seed.rotate_left(32));
-    let answers = gimli::walk(list, usize::MAX);
+    let answers = Walk::answers(list);
     for _ in 0..2 {
         let address = match answers[r.below(answers.len() as u64) as usize] {
             Answer::Entry(entry) => match r.below(4) {
@@ -419,7 +473,17 @@ pub fn tables(
     big_endian: bool,
     met: &mut Met,
 ) -> Result<(), String> {
-    let mut oracle = Tables::open(section, big_endian);
+    let oracle = Tables::open(section, big_endian);
+    met.measured(oracle.by_model(), |met| table_walk(port, section, big_endian, oracle, met))
+}
+
+fn table_walk(
+    port: &impl Port,
+    section: &[u8],
+    big_endian: bool,
+    mut oracle: Tables,
+    met: &mut Met,
+) -> Result<(), String> {
     let mut place = 0;
     let mut ends = 0;
     while ends < 3 {
@@ -427,26 +491,21 @@ pub fn tables(
         let (got, after) = port.next_table(section, big_endian, place);
         count_answer(met, "table", &answer);
         place = after;
-        let table = match &answer {
-            Answer::Entry((table, _)) => Answer::Entry(*table),
-            Answer::End => Answer::End,
-            Answer::Refused(refusal) => Answer::Refused(*refusal),
-        };
-        met.same("table", &table, &got)?;
+        met.same("table", &answer, &got)?;
         met.same("place after table", &oracle.place(), &place)?;
-        let Answer::Entry((table, mut entries)) = answer else {
-            ends += u32::from(matches!(answer, Answer::End));
+        let Answer::Entry(table) = answer else {
+            ends += u32::from(answer == Answer::End);
             continue;
         };
         let mut rest = table.entries;
         let mut last = 0;
         while last < 3 {
-            let answer = entries.next();
+            let answer = oracle.next_entry();
             let (got, after) = port.next_entry(section, big_endian, table.address_size, rest);
             count_answer(met, "table entry", &answer);
             rest = after;
             met.same("table entry", &answer, &got)?;
-            met.same("left after entry", &entries.left(), &rest.length)?;
+            met.same("left after entry", &oracle.left(), &rest.length)?;
             last += u32::from(answer == Answer::End);
         }
     }
@@ -482,18 +541,39 @@ pub fn short(port: &impl Port, bytes: &[u8], met: &mut Met) -> Result<(), String
             table: &[0x10, 0x18, 0xfe],
             table_base: 0,
         };
-        let named = |error| format!("{error}\n{list:x?}");
-        let mut oracle = Walk::open(&list).map_err(|r| named(format!("open: {r:?}")))?;
-        let mut state = port.open(&list).map_err(|r| named(format!("open: {r:?}")))?;
-        loop {
-            let answer = oracle.next();
-            let (got, after) = port.next(&list, state);
-            met.same("next", &answer, &got).map_err(named)?;
-            state = after;
-            if answer == Answer::End {
-                break;
-            }
+        answers(port, &list, met)?;
+    }
+    Ok(())
+}
+
+/// `next` up to the end, answers only.
+pub fn answers(port: &impl Port, list: &List, met: &mut Met) -> Result<(), String> {
+    let next = |state| port.next(list, state);
+    met.measured_at(list.address_size, |met| {
+        follow("next", Walk::answers(list), port.open(list), next, met)
+            .map_err(|error| format!("{error}\n{list:x?}"))
+    })
+}
+
+/// A walk's calls one by one, held against answers that are known.
+pub fn follow<T: PartialEq + Debug>(
+    call: &str,
+    answers: impl IntoIterator<Item = Answer<T>>,
+    opened: Result<State, Refusal>,
+    next: impl Fn(State) -> (Answer<T>, State),
+    met: &mut Met,
+) -> Result<(), String> {
+    let mut answers = answers.into_iter();
+    let mut state = match opened {
+        Ok(state) => state,
+        Err(refusal) => {
+            return met.same("open", &answers.next(), &Some(Answer::Refused(refusal)));
         }
+    };
+    for answer in answers {
+        let (got, after) = next(state);
+        met.same(call, &answer, &got)?;
+        state = after;
     }
     Ok(())
 }

@@ -1,8 +1,10 @@
 //! Compares the port with the oracle: every short list, headers of address
 //! tables with every size and at places of every remainder, then the cases of as
 //! many seeds as are asked for, then a case built for coverage, sheets and
-//! canonical lists for every twentieth of them. A difference is printed, the last
-//! line has their number, and the exit status is 1 where there are any.
+//! canonical lists for every twentieth of them. Last comes address size 3: every
+//! short list, and for every fourth of the seeds a case, a list that gimli reads
+//! up to an address, and one that it reads with size 4. A difference is printed,
+//! the last line has their number, and the exit status is 1 where there are any.
 //!
 //!   differ [seeds [first seed]] [all] [model]
 //!
@@ -12,11 +14,14 @@
 mod added;
 mod built;
 mod differ;
+mod measure;
 mod model;
 mod port;
+mod three;
 
 use added::Added;
 use differ::Met;
+use generator::Random;
 use oracle::oracle_api::{self as gimli, Kind};
 use std::sync::Mutex;
 use std::sync::atomic::{AtomicU64, Ordering};
@@ -56,16 +61,28 @@ fn differences(number: u64) {
     }
 }
 
-fn run(port: &impl Added, seeds: u64, first: u64, all: bool) {
+/// A part of the comparison: `one` for every number below `count`. Prints what
+/// was met, and a line.
+fn part(count: u64, name: &str, one: impl Fn(u64, &mut Met) -> Result<(), String> + Sync) -> Met {
     let start = Instant::now();
-    let short = if all { generator::SHORT_LISTS } else { 1 + 0x100 + 0x10000 };
-    let lists = spread(u64::from(short), |index, met| {
-        let (bytes, length) = generator::short_list(index as u32);
-        differ::short(port, &bytes[..length], met)
-    });
-    let seconds = start.elapsed().as_secs();
-    println!("{short} short lists, {} calls, none differ, {seconds} s", lists.calls);
+    let met = spread(count, one);
+    for (name, count) in &met.names {
+        println!("{count:>12} {name}");
+    }
+    let calls = match (met.calls, met.with_model) {
+        (calls, 0) => format!("{calls} calls"),
+        (0, model) => format!("{model} calls with the model"),
+        (calls, model) => format!("{calls} calls, {model} more at size 3 with the model"),
+    };
+    println!("{count} {name}, {calls}, none differ, {} s", start.elapsed().as_secs());
+    if met.left_out > 0 {
+        println!("{} calls left out, none differs from the scope", met.left_out);
+    }
+    met
+}
 
+/// The default bases, all of them.
+fn default_bases(port: &impl Added) -> u64 {
     let mut bases = 0;
     for kind in [Kind::Ranges, Kind::Locations] {
         for version in 0..=8 {
@@ -81,49 +98,60 @@ fn run(port: &impl Added, seeds: u64, first: u64, all: bool) {
         }
     }
     println!("{bases} default bases, none differ");
+    bases
+}
 
-    let start = Instant::now();
-    let headers = spread(u64::from(generator::TABLE_HEADERS), |index, met| {
+fn run(port: &impl Added, seeds: u64, first: u64, all: bool) {
+    let short = u64::from(if all { generator::SHORT_LISTS } else { 1 + 0x100 + 0x10000 });
+    let mut total = part(short, "short lists", |index, met| {
+        let (bytes, length) = generator::short_list(index as u32);
+        differ::short(port, &bytes[..length], met)
+    });
+    total.calls += default_bases(port);
+    total.join(part(generator::TABLE_HEADERS.into(), "table headers", |index, met| {
         let case = generator::table_header(index as u32);
         differ::tables(port, &case.section, case.big_endian, met)
             .map_err(|error| format!("table header {index}: {error}\n{case:x?}"))
-    });
-    print_names(&headers);
-    let (made, seconds) = (generator::TABLE_HEADERS, start.elapsed().as_secs());
-    println!("{made} table headers, {} calls, none differ, {seconds} s", headers.calls);
-
-    let start = Instant::now();
-    let met = spread(seeds, |index, met| {
+    }));
+    total.join(part(seeds, &format!("seeds from {first}"), |index, met| {
         let seed = first.wrapping_add(index);
-        let case = generator::case(seed);
+        let case = generator::case(seed, &generator::SIZES);
         differ::compare(port, &case, seed, met)
             .map_err(|error| format!("seed {seed}: {error}\n{case:x?}"))
-    });
-    print_names(&met);
-    let seconds = start.elapsed().as_secs();
-    println!("{seeds} seeds from {first}, {} calls, none differ, {seconds} s", met.calls);
-    println!("{} calls left out, none differs from the scope", met.left_out);
-
-    let start = Instant::now();
-    let cases = seeds.div_ceil(20);
-    let built = spread(cases, |index, met| {
+    }));
+    let name = format!("built cases from seed {first}");
+    total.join(part(seeds.div_ceil(20), &name, |index, met| {
         let seed = first.wrapping_add(index);
         built::compare(port, seed, met).map_err(|error| format!("built, seed {seed}: {error}"))
-    });
-    print_names(&built);
-    let seconds = start.elapsed().as_secs();
-    println!(
-        "{cases} built cases from seed {first}, {} calls, none differ, {seconds} s",
-        built.calls
-    );
-    let calls = lists.calls + bases + headers.calls + met.calls + built.calls;
-    println!("{calls} calls compared in all, 0 differences");
-}
-
-fn print_names(met: &Met) {
-    for (name, count) in &met.names {
-        println!("{count:>12} {name}");
-    }
+    }));
+    total.join(part(short, "short lists at size 3", |index, met| {
+        let (bytes, length) = generator::short_list(index as u32);
+        three::short(port, &bytes[..length], met)
+    }));
+    let fourth = seeds.div_ceil(4);
+    total.join(part(fourth, &format!("cases at size 3 from seed {first}"), |index, met| {
+        let seed = first.wrapping_add(index);
+        let case = generator::case(seed, &[3]);
+        three::compare(port, &case, seed, met)
+            .map_err(|error| format!("size 3, seed {seed}: {error}\n{case:x?}"))
+    }));
+    let name = format!("lists of size 3 up to an address, from seed {first}");
+    total.join(part(fourth, &name, |index, met| {
+        let seed = first.wrapping_add(index);
+        let case = generator::list_case(&mut Random::new(seed), &[3]);
+        three::up_to_an_address(port, &case, met)
+            .map_err(|error| format!("up to an address, seed {seed}: {error}\n{case:x?}"))
+    }));
+    let name =
+        format!("lists of size 3, widened where they stay below its bound, from seed {first}");
+    total.join(part(fourth, &name, |index, met| {
+        let seed = first.wrapping_add(index);
+        let cases = generator::widened(seed);
+        three::widened(port, &cases, seed, met)
+            .map_err(|error| format!("widened, seed {seed}: {error}\n{cases:x?}"))
+    }));
+    let (calls, model) = (total.calls + total.with_model, total.with_model);
+    println!("{calls} calls compared in all, {model} of them with the model, 0 differences");
 }
 
 fn main() {

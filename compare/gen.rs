@@ -44,7 +44,9 @@ pub enum Kind {
 }
 
 pub const KINDS: [Kind; 3] = [Kind::Ranges, Kind::Locations, Kind::SplitLocations];
+/// The address sizes that gimli reads, and those that the scope reads.
 pub const SIZES: [u8; 4] = [1, 2, 4, 8];
+pub const READ: [u8; 5] = [1, 2, 3, 4, 8];
 
 /// A list and all that its reading depends on. `old` is read up to version 4,
 /// `new` from version 5.
@@ -109,7 +111,8 @@ pub struct OffsetCase {
     pub index: u64,
 }
 
-/// Reading numbers and parts: some bytes, a width, a count to skip or keep.
+/// Reading numbers and parts: some bytes, a width, which for an address may be 3,
+/// a count to skip or keep.
 #[derive(Debug, Clone, PartialEq, Eq)]
 pub struct BytesCase {
     pub bytes: Vec<u8>,
@@ -139,20 +142,21 @@ pub enum Case {
     Sum(SumCase),
 }
 
-/// The case of a seed.
-pub fn case(seed: u64) -> Case {
+/// The case of a seed. Its address size is one of the sizes, but where another
+/// is put in on purpose.
+pub fn case(seed: u64, sizes: &[u8]) -> Case {
     let r = &mut Random::new(seed);
     match r.below(40) {
-        0..=22 => Case::List(list_case(r)),
-        23..=26 => Case::Convert(convert_case(r)),
-        27..=29 => Case::Address(address_case(r)),
-        30..=31 => Case::Tables(tables_case(r)),
-        32..=33 => Case::Lists(lists_case(r)),
+        0..=22 => Case::List(list_case(r, sizes)),
+        23..=26 => Case::Convert(convert_case(r, sizes)),
+        27..=29 => Case::Address(address_case(r, sizes)),
+        30..=31 => Case::Tables(tables_case(r, sizes)),
+        32..=33 => Case::Lists(lists_case(r, sizes)),
         34..=35 => Case::Offset(offset_case(r)),
         36..=37 => Case::Leb128(leb128_case(r)),
-        38 => Case::Bytes(bytes_case(r)),
+        38 => Case::Bytes(bytes_case(r, sizes)),
         _ => {
-            let size = r.pick(&SIZES);
+            let size = r.pick(sizes);
             let (first, second) = (number(r, size), number(r, size));
             Case::Sum(SumCase { first, second, address_size: size })
         }
@@ -189,7 +193,7 @@ pub fn table_header(index: u32) -> SectionCase {
     };
     let (size, big_endian, dwarf64) = (digit(256), digit(2) == 1, digit(2) == 1);
     let (before, tail, length) = (digit(16), digit(18), digit(4));
-    let mut w = Writer { out: Vec::new(), big_endian };
+    let mut w = Writer::new(Vec::new(), big_endian);
     w.fixed(4 + before, 4);
     w.fixed(5, 2);
     w.out.extend([1, 0]);
@@ -241,9 +245,14 @@ fn number(r: &mut Random, size: u8) -> u64 {
     }
 }
 
-/// A small number that fits the size.
+/// A small number that fits the size; of size 3 up to a quarter of what fits, so
+/// that its third byte counts.
 fn tame(r: &mut Random, size: u8) -> u64 {
-    r.below(if size == 1 { 0x60 } else { 0x2000 })
+    r.below(match size {
+        1 => 0x60,
+        3 => 0x400000,
+        _ => 0x2000,
+    })
 }
 
 fn some_number(r: &mut Random, size: u8, wild: Wild) -> u64 {
@@ -267,13 +276,44 @@ fn pair(r: &mut Random, size: u8, wild: Wild) -> (u64, u64) {
     (begin, end)
 }
 
-/// The bytes of a section under way, in its byte order.
+/// The bytes of a section under way, in its byte order; where its addresses
+/// stand, and the byte that would be next in each.
 struct Writer {
     out: Vec<u8>,
     big_endian: bool,
+    addresses: Vec<(usize, u8)>,
 }
 
 impl Writer {
+    fn new(out: Vec<u8>, big_endian: bool) -> Writer {
+        Writer { out, big_endian, addresses: Vec::new() }
+    }
+
+    fn address(&mut self, value: u64, size: u8) {
+        self.addresses.push((self.out.len(), 0));
+        self.fixed(value, size);
+    }
+
+    /// All ones, which select a base.
+    fn ones(&mut self, size: u8) {
+        self.addresses.push((self.out.len(), 0xff));
+        self.fixed(u64::MAX, size);
+    }
+
+    /// The bytes with addresses of three bytes in four; none where an address is
+    /// all ones by chance. The last may be cut.
+    fn widened(&self) -> Option<Vec<u8>> {
+        let mut out = self.out.clone();
+        for &(at, next) in self.addresses.iter().rev() {
+            let end = self.out.len().min(at + 3);
+            if next == 0 && self.out[at..end] == [0xff; 3] {
+                return None;
+            }
+            out.insert(if self.big_endian { at } else { end }, next);
+        }
+        Some(out)
+    }
+
     fn fixed(&mut self, value: u64, width: u8) {
         let little = &value.to_le_bytes()[..usize::from(width)];
         if self.big_endian {
@@ -353,8 +393,8 @@ fn index(r: &mut Random, count: u64, size: u8, wild: Wild) -> u64 {
         n if n < 12 => count + r.below(3),
         n if n < 14 => {
             // Where index times size passes 2^64.
-            let width = u128::from(size);
-            ((1u128 << 64) / width).wrapping_sub(u128::from(r.below(3))) as u64
+            let first = (1u128 << 64).div_ceil(u128::from(size));
+            first.wrapping_sub(u128::from(r.below(3))) as u64
         }
         _ => number(r, size),
     }
@@ -405,14 +445,14 @@ fn kind_entry(w: &mut Writer, r: &mut Random, list: &ListCase, count: u64, wild:
         5 => {}
         6 => {
             let base = base(r, size, wild);
-            w.fixed(base, size);
+            w.address(base, size);
         }
         7 => {
-            w.fixed(begin, size);
-            w.fixed(end, size);
+            w.address(begin, size);
+            w.address(end, size);
         }
         _ => {
-            w.fixed(begin, size);
+            w.address(begin, size);
             w.number(r, length, wild);
         }
     }
@@ -427,9 +467,9 @@ fn bare_entry(w: &mut Writer, r: &mut Random, list: &ListCase, wild: Wild) {
     let (mut begin, mut end) = pair(r, size, wild);
     let what = r.below(12);
     if what == 0 || what == 1 {
-        w.fixed(top(size), size);
+        w.ones(size);
         let base = base(r, size, wild);
-        w.fixed(base, size);
+        w.address(base, size);
         return;
     }
     if wild != Wild::Tame && what == 2 {
@@ -439,8 +479,8 @@ fn bare_entry(w: &mut Writer, r: &mut Random, list: &ListCase, wild: Wild) {
         begin = 0;
         end = r.below(2);
     }
-    w.fixed(begin, size);
-    w.fixed(end, size);
+    w.address(begin, size);
+    w.address(end, size);
     if list.kind == Kind::Locations && (begin & top(size), end & top(size)) != (0, 0) {
         expression(w, r, true, wild);
     }
@@ -469,10 +509,10 @@ fn some_version(r: &mut Random) -> u16 {
 }
 
 /// An address table's bytes, its base, and its number of entries.
-fn table(r: &mut Random, size: u8, big_endian: bool, wild: Wild) -> (Vec<u8>, u64, u64) {
-    let mut w = Writer { out: Vec::new(), big_endian };
+fn table(r: &mut Random, size: u8, big_endian: bool, wild: Wild) -> (Writer, u64, u64) {
+    let mut w = Writer::new(Vec::new(), big_endian);
     if r.one_in(1, 12) {
-        return (w.out, r.pick(&[0, 0, 1, 8]), 0);
+        return (w, r.pick(&[0, 0, 1, 8]), 0);
     }
     let count = r.below(9);
     if r.one_in(3, 4) {
@@ -489,7 +529,7 @@ fn table(r: &mut Random, size: u8, big_endian: bool, wild: Wild) -> (Vec<u8>, u6
     let start = w.out.len() as u64;
     let mut address = tame(r, size);
     for _ in 0..count {
-        w.fixed(address, size);
+        w.address(address, size);
         address = if wild == Wild::Tame || r.one_in(1, 2) {
             address.wrapping_add(1 + r.below(0x20))
         } else {
@@ -517,7 +557,7 @@ fn table(r: &mut Random, size: u8, big_endian: bool, wild: Wild) -> (Vec<u8>, u6
             _ => r.below(length + 1),
         }
     };
-    (w.out, at, count)
+    (w, at, count)
 }
 
 /// Cuts, changes, takes out and puts in bytes.
@@ -538,10 +578,9 @@ fn damage(r: &mut Random, bytes: &mut Vec<u8>) {
     }
 }
 
-/// A list, plain or damaged, with what its reading depends on.
-pub fn list_case(r: &mut Random) -> ListCase {
-    let wild = r.pick(&[Wild::Tame, Wild::Edges, Wild::Edges, Wild::Broken]);
-    let size = r.pick(&SIZES);
+/// A list with what its reading depends on; its section and its table are
+/// under way.
+fn list(r: &mut Random, size: u8, wild: Wild) -> (ListCase, Writer, Writer) {
     let big_endian = r.one_in(1, 2);
     let (table, table_base, count) = table(r, size, big_endian, wild);
     let mut list = ListCase {
@@ -554,11 +593,11 @@ pub fn list_case(r: &mut Random) -> ListCase {
         dwarf64: r.one_in(1, 4),
         big_endian,
         base_address: base(r, size, wild),
-        table,
+        table: Vec::new(),
         table_base,
     };
-    let before = r.below(3) * r.below(12);
-    let mut w = Writer { out: r.bytes(before), big_endian };
+    list.offset = r.below(3) * r.below(12);
+    let mut w = Writer::new(r.bytes(list.offset), big_endian);
     let bare = list.version <= 4 && list.kind != Kind::SplitLocations;
     let entries = match r.below(400) {
         0 => 1000 + r.below(60),
@@ -576,10 +615,44 @@ pub fn list_case(r: &mut Random) -> ListCase {
             kind_entry(&mut w, r, &list, count, wild);
         }
     }
-    if r.one_in(7, 8) {
-        let end = if bare { 2 * usize::from(size) } else { 1 };
-        w.out.extend(vec![0; end]);
+    match (r.one_in(7, 8), bare) {
+        (false, _) => {}
+        (true, false) => w.out.push(0),
+        (true, true) => (0..2).for_each(|_| w.address(0, size)),
     }
+    (list, w, table)
+}
+
+/// A list of size 3, and the same list of size 4. Some lack their last byte, or
+/// have a 9 there, which is an unknown kind in place of the end mark.
+pub fn widened(seed: u64) -> Option<[ListCase; 2]> {
+    let r = &mut Random::new(seed);
+    let wild = r.pick(&[Wild::Tame, Wild::Edges]);
+    let (list, mut w, table) = list(r, 3, wild);
+    let last = r.below(8);
+    if last < 3 {
+        w.out.pop();
+    }
+    if last < 2 {
+        w.out.push(9);
+    }
+    let of = |address_size, section: Vec<u8>, table| ListCase {
+        address_size,
+        old: section.clone(),
+        new: section,
+        table,
+        ..list
+    };
+    let four = of(4, w.widened()?, table.widened()?);
+    Some([of(3, w.out, table.out), four])
+}
+
+/// A list, plain or damaged, with what its reading depends on.
+pub fn list_case(r: &mut Random, sizes: &[u8]) -> ListCase {
+    let wild = r.pick(&[Wild::Tame, Wild::Edges, Wild::Edges, Wild::Broken]);
+    let size = r.pick(sizes);
+    let (mut list, mut w, table) = list(r, size, wild);
+    list.table = table.out;
     if r.one_in(1, 3) {
         let after = r.below(12);
         w.out.extend(r.bytes(after));
@@ -594,7 +667,7 @@ pub fn list_case(r: &mut Random) -> ListCase {
         2 => r.pick(&[1 << 32, 1 << 63, u64::MAX, u64::MAX - 1]),
         3 => r.below(length + 1),
         4 => number(r, 4),
-        _ => before,
+        _ => list.offset,
     };
     // The section that isn't chosen holds something else.
     let other_length = r.below(24);
@@ -604,8 +677,8 @@ pub fn list_case(r: &mut Random) -> ListCase {
 }
 
 /// Raw entries made by hand, also with numbers wider than the address size.
-pub fn convert_case(r: &mut Random) -> ConvertCase {
-    let mut list = list_case(r);
+pub fn convert_case(r: &mut Random, sizes: &[u8]) -> ConvertCase {
+    let mut list = list_case(r, sizes);
     let length = if list.version <= 4 { list.old.len() } else { list.new.len() } as u64;
     list.offset = r.below(length + 1);
     let count = list.table.len() as u64 / u64::from(list.address_size);
@@ -633,13 +706,13 @@ pub fn convert_case(r: &mut Random) -> ConvertCase {
 }
 
 /// An address lookup; other sizes are among them.
-pub fn address_case(r: &mut Random) -> AddressCase {
-    let size = r.pick(&SIZES);
+pub fn address_case(r: &mut Random, sizes: &[u8]) -> AddressCase {
+    let size = r.pick(sizes);
     let big_endian = r.one_in(1, 2);
     let (table, base, count) = table(r, size, big_endian, Wild::Edges);
     let address_size = if r.one_in(1, 8) { r.next() as u8 >> r.below(8) } else { size };
     let index = index(r, count, address_size.max(1), Wild::Edges);
-    AddressCase { table, big_endian, address_size, base, index }
+    AddressCase { table: table.out, big_endian, address_size, base, index }
 }
 
 /// A header with its tail, good or with one field off. `count` is the field
@@ -691,11 +764,11 @@ fn header(
 }
 
 /// Address tables, one behind the other.
-pub fn tables_case(r: &mut Random) -> SectionCase {
+pub fn tables_case(r: &mut Random, sizes: &[u8]) -> SectionCase {
     let big_endian = r.one_in(1, 2);
-    let mut w = Writer { out: Vec::new(), big_endian };
+    let mut w = Writer::new(Vec::new(), big_endian);
     for _ in 0..r.below(4) {
-        let size = r.pick(&SIZES);
+        let size = r.pick(sizes);
         let count = r.below(5) * u64::from(size) + r.pick(&[0, 0, 0, 0, 0, 0, 1, 3]);
         let tail = r.bytes(count);
         let dwarf64 = r.one_in(1, 3);
@@ -709,13 +782,13 @@ pub fn tables_case(r: &mut Random) -> SectionCase {
 }
 
 /// A lists section's header.
-pub fn lists_case(r: &mut Random) -> SectionCase {
+pub fn lists_case(r: &mut Random, sizes: &[u8]) -> SectionCase {
     let big_endian = r.one_in(1, 2);
-    let mut w = Writer { out: Vec::new(), big_endian };
+    let mut w = Writer::new(Vec::new(), big_endian);
     let tail_length = r.below(20);
     let tail = r.bytes(tail_length);
     let count = r.next() as u32 >> r.below(32);
-    let (size, dwarf64) = (r.pick(&SIZES), r.one_in(1, 2));
+    let (size, dwarf64) = (r.pick(sizes), r.one_in(1, 2));
     header(&mut w, r, size, dwarf64, Some(count), &tail);
     if r.one_in(1, 4) {
         let more = r.below(9);
@@ -732,7 +805,7 @@ pub fn lists_case(r: &mut Random) -> SectionCase {
 pub fn offset_case(r: &mut Random) -> OffsetCase {
     let (big_endian, dwarf64) = (r.one_in(1, 2), r.one_in(1, 2));
     let word = if dwarf64 { 8 } else { 4 };
-    let mut w = Writer { out: Vec::new(), big_endian };
+    let mut w = Writer::new(Vec::new(), big_endian);
     let start = if r.one_in(3, 4) { if dwarf64 { 20 } else { 12 } } else { r.below(30) };
     w.out = r.bytes(start);
     let count = r.below(6);
@@ -757,7 +830,7 @@ pub fn offset_case(r: &mut Random) -> OffsetCase {
 
 /// Bytes read as an unsigned LEB128 number.
 pub fn leb128_case(r: &mut Random) -> Vec<u8> {
-    let mut w = Writer { out: Vec::new(), big_endian: false };
+    let mut w = Writer::new(Vec::new(), false);
     match r.below(4) {
         0 => {
             let value = number(r, 8);
@@ -788,7 +861,7 @@ pub fn leb128_case(r: &mut Random) -> Vec<u8> {
 }
 
 /// Bytes for the fixed-width reads, and a count to skip, split or keep.
-pub fn bytes_case(r: &mut Random) -> BytesCase {
+pub fn bytes_case(r: &mut Random, sizes: &[u8]) -> BytesCase {
     let length = r.below(16);
     let mut bytes = r.bytes(length);
     if r.one_in(1, 3) {
@@ -805,5 +878,5 @@ pub fn bytes_case(r: &mut Random) -> BytesCase {
         1 => length + r.below(2),
         _ => r.below(length + 1),
     };
-    BytesCase { bytes, big_endian: r.one_in(1, 2), width: r.pick(&SIZES), count }
+    BytesCase { bytes, big_endian: r.one_in(1, 2), width: r.pick(sizes), count }
 }

@@ -98,7 +98,7 @@ impl<'a> Bytes<'a> {
 }
 
 fn lawful(size: u8) -> bool {
-    [1, 2, 4, 8].contains(&size)
+    [1, 2, 3, 4, 8].contains(&size)
 }
 
 /// Before all else on a walk.

@@ -4,7 +4,8 @@
 //! refusals, and places counted from a section's start.
 //!
 //! Walks with an address size other than 1, 2, 4, 8 are outside the
-//! comparison: the scope lists them as a difference.
+//! comparison, since gimli refuses each address there: the scope lists them as a
+//! difference.
 
 use core::fmt::Debug;
 
@@ -31,12 +32,25 @@ pub struct Refusal {
     pub value: u64,
 }
 
+/// The refusal where gimli meets address size 3, which the scope reads.
+pub const THREE: Refusal = Refusal { number: 6, value: 3 };
+
 /// What a reading call answers.
 #[derive(Debug, Clone, Copy, PartialEq, Eq, Hash)]
 pub enum Answer<T> {
     Entry(T),
     End,
     Refused(Refusal),
+}
+
+impl<T> Answer<T> {
+    pub fn map<U>(self, entry: impl FnOnce(T) -> U) -> Answer<U> {
+        match self {
+            Answer::Entry(got) => Answer::Entry(entry(got)),
+            Answer::End => Answer::End,
+            Answer::Refused(refusal) => Answer::Refused(refusal),
+        }
+    }
 }
 
 /// What `convert_raw` answers; `Nothing` for a base and for a skipped range.
@@ -510,7 +524,8 @@ pub fn walk_raw(list: &List<'_>, most: usize) -> Vec<Answer<Raw>> {
     }
 }
 
-fn trace<T: PartialEq>(most: usize, mut call: impl FnMut() -> Answer<T>) -> Vec<Answer<T>> {
+/// Every answer of a call up to the first end, at most `most`.
+pub fn trace<T: PartialEq>(most: usize, mut call: impl FnMut() -> Answer<T>) -> Vec<Answer<T>> {
     let mut answers = Vec::new();
     while answers.len() < most && answers.last() != Some(&Answer::End) {
         answers.push(call());
@@ -717,17 +732,17 @@ pub fn truncate(bytes: &[u8], length: u64) -> Result<Place, Refusal> {
     Ok(place_of(bytes, input.slice()))
 }
 
-/// `wrapping_add_sized`, for sizes 1, 2, 4, 8.
+/// `wrapping_add_sized`, for sizes 1 to 8.
 pub fn wrapping_add_sized(address: u64, length: u64, size: u8) -> u64 {
     address.wrapping_add_sized(length, size)
 }
 
-/// `min_tombstone`, for sizes 1, 2, 4, 8.
+/// `min_tombstone`, for sizes 1 to 8.
 pub fn min_tombstone(size: u8) -> u64 {
     u64::min_tombstone(size)
 }
 
-/// `ones_sized`, for sizes 1, 2, 4, 8.
+/// `ones_sized`, for sizes 1 to 8.
 pub fn ones_sized(size: u8) -> u64 {
     <u64 as ReaderAddress>::ones_sized(size)
 }

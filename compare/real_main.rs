@@ -15,6 +15,8 @@ mod differ;
 mod dumps;
 #[path = "real/elf.rs"]
 mod elf;
+#[allow(dead_code)]
+mod measure;
 mod model;
 #[path = "real/operations.rs"]
 mod operations;

@@ -1,5 +1,6 @@
 //! A call as a line, and the oracle's answers to it as lines.
 
+use generator::READ;
 use oracle::oracle_api::{self as gimli, *};
 use std::collections::{BTreeMap, BTreeSet};
 use std::fmt::Write;
@@ -54,7 +55,7 @@ pub struct Key {
 
 impl Key {
     fn like(&self, other: &Key) -> bool {
-        let other_size = |key: &Key| ![1, 2, 4, 8].contains(&key.size);
+        let other_size = |key: &Key| !READ.contains(&key.size);
         let sizes = self.size == other.size || other_size(self) && other_size(other);
         self.what == other.what && self.answer == other.answer && sizes
     }
@@ -75,13 +76,14 @@ impl Met {
     /// A row for each call and answer: all, by size, by order, by version.
     pub fn print(&self) {
         type Column = (&'static str, fn(&Key) -> bool);
-        let columns: [Column; 13] = [
+        let columns: [Column; 14] = [
             ("all", |_| true),
             ("1", |key| key.size == 1),
             ("2", |key| key.size == 2),
+            ("3", |key| key.size == 3),
             ("4", |key| key.size == 4),
             ("8", |key| key.size == 8),
-            ("other", |key| ![1, 2, 4, 8].contains(&key.size)),
+            ("other", |key| !READ.contains(&key.size)),
             ("little", |key| !key.big_endian),
             ("big", |key| key.big_endian),
             ("to v2", |key| key.version <= 2),
@@ -173,10 +175,11 @@ fn holds(entry: &Yielded, address: u64) -> bool {
     entry.begin <= address && address < entry.end
 }
 
-/// The answers to one call under way.
+/// The answers to one call under way, and whether gimli refused size 3.
 struct Lines<'a> {
     call: &'a Call,
     text: String,
+    three: bool,
     met: &'a mut Met,
 }
 
@@ -195,6 +198,7 @@ impl Lines<'_> {
     }
 
     fn refused(&mut self, about: &str, refusal: Refusal, more: String) {
+        self.three |= refusal == THREE;
         self.put(&format!("{about}refused {}", refusal.number), refused(refusal) + &more);
     }
 
@@ -420,7 +424,7 @@ impl Call {
         if [&self.old, &self.new, &self.table].iter().any(|section| ROOM < section.len()) {
             return None;
         }
-        let mut lines = Lines { call: self, text: String::new(), met };
+        let mut lines = Lines { call: self, text: String::new(), three: false, met };
         let ([a, b, _, d], t, big) = (self.numbers, &self.table, self.big_endian);
         let value = |value: u64| format!("value {value:x}");
         match self.what {
@@ -462,6 +466,6 @@ impl Call {
                 }
             }
         }
-        Some(lines.text)
+        (!lines.three).then_some(lines.text)
     }
 }

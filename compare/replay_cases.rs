@@ -2,9 +2,7 @@
 //! every boundary; and drawn ones, from the generator's seeds.
 
 use super::replay_calls::*;
-use generator::Case;
-
-const SIZES: [u8; 4] = [1, 2, 4, 8];
+use generator::{Case, READ, SIZES};
 
 fn top(size: u8) -> u64 {
     u64::MAX >> (64 - 8 * u32::from(size))
@@ -436,7 +434,7 @@ fn headers(ask: &mut dyn FnMut(&Call)) {
         for (big_endian, dwarf64) in [(false, false), (true, false), (false, true), (true, true)] {
             let with = |h: Header| header(h, what, big_endian, dwarf64);
             let mut put = |size, bytes| ask(&plain(what, size, big_endian, dwarf64, bytes));
-            for size in [1, 2, 4, 8, 0, 3, 9, 255] {
+            for size in [1, 2, 4, 8, 0, 5, 9, 255] {
                 put(size, with(Header { size, ..GOOD }));
             }
             for version in [0, 4, 6, 0x500, 0xffff] {
@@ -447,8 +445,8 @@ fn headers(ask: &mut dyn FnMut(&Call)) {
             }
             put(4, with(Header { length: 1, ..GOOD }));
             put(4, with(Header { length: 1 << 20, ..GOOD }));
-            put(3, with(Header { version: 4, size: 3, segment: 1, ..GOOD }));
-            put(3, with(Header { size: 3, segment: 1, ..GOOD }));
+            put(5, with(Header { version: 4, size: 5, segment: 1, ..GOOD }));
+            put(5, with(Header { size: 5, segment: 1, ..GOOD }));
             let two = [with(GOOD), with(Header { size: 2, ..GOOD })].concat();
             put(4, two.clone());
             let length = with(GOOD).len() as u64;
@@ -474,7 +472,8 @@ fn headers(ask: &mut dyn FnMut(&Call)) {
 fn addresses(ask: &mut dyn FnMut(&Call)) {
     for size in [1, 2, 4, 8, 0, 3, 5, 6, 7, 9, 16, 255] {
         for big_endian in [false, true] {
-            // Of a bad size only a row that is there, and one whose product passes 2^64.
+            // Of a bad size only a row that is there, and one whose product passes 2^64. Of size 3
+            // those are kept that gimli answers before it comes to the size.
             let table: Vec<u8> = (0..25).map(|i| 0xa0 + i).collect();
             let width = u64::from(size.max(1));
             let most = u64::MAX / width;
@@ -493,7 +492,7 @@ fn addresses(ask: &mut dyn FnMut(&Call)) {
                 (0, most),
                 (0, u64::MAX),
             ];
-            let some = if SIZES.contains(&size) { calls.len() } else { 2 };
+            let some = if READ.contains(&size) { calls.len() } else { 2 };
             for &(base, index) in &calls[..some] {
                 let mut call = plain(GET_ADDRESS, size, big_endian, false, table.clone());
                 call.numbers = [base, index, 0, 0];
@@ -553,7 +552,7 @@ fn reads(ask: &mut dyn FnMut(&Call)) {
         ask(&plain(LEB128, 0, false, false, [vec![0x80; 9], vec![tenth]].concat()));
         ask(&plain(LEB128, 0, false, false, [vec![0xff; 9], vec![tenth, 0]].concat()));
     }
-    let sizes = [1, 2, 4, 8, 0, 3, 5, 6, 7, 9, 255];
+    let sizes = [1, 2, 4, 8, 0, 16, 5, 6, 7, 9, 255];
     for length in [0, 1, 2, 3, 4, 7, 8, 9, 12u8] {
         for big_endian in [false, true] {
             let bytes: Vec<u8> = (0..length).map(|i| 8 - (i & 7)).collect();
@@ -574,7 +573,7 @@ fn reads(ask: &mut dyn FnMut(&Call)) {
 }
 
 fn sums(ask: &mut dyn FnMut(&Call)) {
-    for size in SIZES {
+    for size in READ {
         let top = top(size);
         for (a, b) in
             [(1, 2), (top, 0), (top, 1), (top - 1, top), (u64::MAX, 1), (1 << 63, 1 << 63)]
@@ -617,7 +616,7 @@ const LONGEST: usize = 64;
 /// The generator's cases, when they are short.
 pub fn drawn(ask: &mut dyn FnMut(&Call)) {
     for seed in 0..SEEDS {
-        let call = call_of(generator::case(seed), seed);
+        let call = call_of(generator::case(seed, &SIZES), seed);
         if let Some(call) = call
             && call.old.len() + call.new.len() + call.table.len() <= 2 * LONGEST
         {

@@ -6,8 +6,8 @@
 //!   make-replay <calls> <answers>
 //!
 //! `crates/replay/src` says what a line means. Left out are the differences
-//! that the scope lists: lists with other address sizes, and offsets of
-//! lists whose sum passes 2^64.
+//! that the scope lists: lists with other address sizes, offsets of lists whose
+//! sum passes 2^64, and calls in which gimli refuses size 3.
 
 mod replay_calls;
 mod replay_cases;

@@ -19,7 +19,7 @@ pub enum Error {
     UnknownLocListsEntry(u64),
     /// A header's version is not 5.
     UnknownVersion(u64),
-    /// An address size is not 1, 2, 4 or 8.
+    /// An address size is not 1, 2, 3, 4 or 8.
     UnsupportedAddressSize(u64),
     /// A segment selector size is not 0.
     UnsupportedSegmentSize(u64),

@@ -8,7 +8,7 @@ use lib.Bits.{bitAnd, and-mask}
 use lib.Pow.{pow-pos, pow-mono, ones-split, ones-lt, high, low as low-part}
 use Rattle.bytes.specs.Address.{low, addSized, ones, minTombstone}
 
-under : (a b : ℕ) → (a < b) ⊎ (b ≤ a)
+pub under : (a b : ℕ) → (a < b) ⊎ (b ≤ a)
 under zero zero = inr (omega arith)
 under zero (suc b) = inl (omega arith)
 under (suc a) zero = inr (omega arith)

@@ -9,3 +9,4 @@ pub mod LebTook
 pub mod Inside
 pub mod WrittenLaws
 pub mod PutLaws
+pub mod SizeLaws

@@ -1,14 +1,16 @@
 -- What the definitions of reading say, case by case. Callers' proofs cite these and do not open the definitions.
-use mathlib.Core.Path.{_≡_, refl, ap, _∙_}
+use mathlib.Core.Path.{_≡_, refl, sym, ap, _∙_}
 use mathlib.Core.Bool.{Bool, true, false, _||_}
 use mathlib.Core.List.{List, []}
 use mathlib.Core.Logic.{_⊎_, inl, inr, ⊎-elim}
-use Prim.Native.Nat.{ℕ, _+_, _-_, _≤_, _<_}
+use Prim.Native.Nat.{ℕ, zero, suc, _+_, _-_, _*_, _/_, _%_, _^_, _≤_, _<_}
 use native.Mathlib.Omega.{arith}
 use lib.ListN.{length, take, drop, getD}
 use lib.Seq.{drop-cons}
-use lib.Dec.{eqb}
+use lib.Bits.{bitAnd, bitOr, or-add-and, and-le-l}
+use lib.Dec.{eqb, ltb}
 use borrow.Author.Tests.{le-leb, lt-leb, le-ltb, lt-ltb, eq-eqb, ne-eqb, eqb-true}
+use Rattle.bytes.proofs.AddressLaws.{under}
 use Rattle.bytes.specs.Read.{Result, gives, got, Read, readThen}
 use Rattle.bytes.specs.Error.{refusal, told, toldPlace}
 use Rattle.bytes.specs.Endianity.{little, value}
@@ -102,36 +104,52 @@ or-cases true b e = inl refl
 or-cases false b e = inr e
 
 -- the sizes, one by one
-pub size-cases : {P : Type 0} (n : ℕ) → isSize n ≡ true → (n ≡ 1 → P) → (n ≡ 2 → P) → (n ≡ 4 → P) → (n ≡ 8 → P) → P
+pub size-cases : {P : Type 0} (n : ℕ) → isSize n ≡ true → (n ≡ 1 → P) → (n ≡ 2 → P) → (n ≡ 3 → P) → (n ≡ 4 → P) → (n ≡ 8 → P) → P
 unfolding isSize
-size-cases n e a b c d =
-    ⊎-elim (λ p. ⊎-elim (λ q. ⊎-elim (λ r. a (eqb-true n 1 r)) (λ r. b (eqb-true n 2 r)) (or-cases (eqb n 1) (eqb n 2) q))
-    (λ q. c (eqb-true n 4 q)) (or-cases (eqb n 1 || eqb n 2) (eqb n 4) p))
-    (λ p. d (eqb-true n 8 p)) (or-cases (eqb n 1 || eqb n 2 || eqb n 4) (eqb n 8) e)
+size-cases n e a b c d f =
+    ⊎-elim (λ p. ⊎-elim (λ q. ⊎-elim (λ r. ⊎-elim (λ t. a (eqb-true n 1 t)) (λ t. b (eqb-true n 2 t)) (or-cases (eqb n 1) (eqb n 2) r))
+    (λ r. c (eqb-true n 3 r)) (or-cases (eqb n 1 || eqb n 2) (eqb n 3) q))
+    (λ q. d (eqb-true n 4 q)) (or-cases (eqb n 1 || eqb n 2 || eqb n 3) (eqb n 4) p))
+    (λ p. f (eqb-true n 8 p)) (or-cases (eqb n 1 || eqb n 2 || eqb n 3 || eqb n 4) (eqb n 8) e)
 
 -- an address has one to eight bytes
 pub size-range : (n : ℕ) → isSize n ≡ true → (0 < n) × (n ≤ 8)
-size-range n e = size-cases n e (λ q. omega arith) (λ q. omega arith) (λ q. omega arith) (λ q. omega arith)
+size-range n e = size-cases n e (λ q. omega arith) (λ q. omega arith) (λ q. omega arith) (λ q. omega arith) (λ q. omega arith)
 
--- what is left after the other three
-pub last-size : (n : ℕ) → isSize n ≡ true → (n ≡ 8 → ⊥) → (n ≡ 4 → ⊥) → (n ≡ 2 → ⊥) → n ≡ 1
-last-size n e a b c = size-cases n e (λ q. q) (λ q. absurd (c q)) (λ q. absurd (b q)) (λ q. absurd (a q))
+-- what is left after the even ones
+pub odd-size : (n : ℕ) → isSize n ≡ true → (n ≡ 8 → ⊥) → (n ≡ 4 → ⊥) → (n ≡ 2 → ⊥) → (n % 2 ≡ 1) × (n ≤ 3)
+odd-size n e a b c = size-cases n e (λ q. omega arith) (λ q. absurd (c q)) (λ q. omega arith) (λ q. absurd (b q)) (λ q. absurd (a q))
 
-pub is-1 : (n : ℕ) → n ≡ 1 → true ≡ isSize n
+-- the sizes by one comparison: of a number and the one below it
+bits : (n : ℕ) → 0 < n → n ≤ 8 → ltb (bitOr (bitAnd n (n - 1)) ((n - 1) / 8 * 8)) 3 ≡ isSize n
 unfolding isSize
-is-1 n e = rw e
+bits zero z h = absurd (omega arith)
+bits (suc zero) z h = refl
+bits (suc (suc zero)) z h = refl
+bits (suc (suc (suc zero))) z h = refl
+bits (suc (suc (suc (suc zero)))) z h = refl
+bits (suc (suc (suc (suc (suc zero))))) z h = refl
+bits (suc (suc (suc (suc (suc (suc zero)))))) z h = refl
+bits (suc (suc (suc (suc (suc (suc (suc zero))))))) z h = refl
+bits (suc (suc (suc (suc (suc (suc (suc (suc zero)))))))) z h = refl
+bits (suc (suc (suc (suc (suc (suc (suc (suc (suc n))))))))) z h = absurd (omega arith)
 
-pub is-2 : (n : ℕ) → n ≡ 2 → true ≡ isSize n
+no-size-past : (n : ℕ) → 8 < n → isSize n ≡ false
 unfolding isSize
-is-2 n e = rw e
+no-size-past n h =
+    simp (ne-eqb n 1 (λ e. omega arith), ne-eqb n 2 (λ e. omega arith), ne-eqb n 3 (λ e. omega arith), ne-eqb n 4 (λ e. omega arith), ne-eqb n 8 (λ e. omega arith))
 
-pub is-4 : (n : ℕ) → n ≡ 4 → true ≡ isSize n
-unfolding isSize
-is-4 n e = rw e
+-- a part that alone is too large
+too-large : (a b : ℕ) → 3 ≤ b → ltb (bitOr a b) 3 ≡ false
+too-large a b h = le-ltb (bitOr a b) 3 (omega (arith, or-add-and a b, and-le-l a b))
 
-pub is-8 : (n : ℕ) → (n ≡ 1 → ⊥) → (n ≡ 2 → ⊥) → (n ≡ 4 → ⊥) → eqb n 8 ≡ isSize n
+pub by-bits : (n below : ℕ) → below < 2 ^ 64 → (below + 1) % 2 ^ 64 ≡ n → ltb (bitOr (bitAnd n below) (below / 8 * 8)) 3 ≡ isSize n
 unfolding isSize
-is-8 n a b d = simp (ne-eqb n 1 a, ne-eqb n 2 b, ne-eqb n 4 d)
+by-bits zero below l e = too-large (bitAnd zero below) (below / 8 * 8) (omega arith)
+by-bits (suc n) below l e =
+    let b : below ≡ suc n - 1 = omega arith in
+    ⊎-elim (λ h. rw (too-large (bitAnd (suc n) below) (below / 8 * 8) (omega arith)) (sym (no-size-past (suc n) h)))
+    (λ h. rw b (bits (suc n) (omega arith) (omega arith))) (under 8 (suc n))
 
 pub size-8 : isSize 8 ≡ true
 unfolding isSize

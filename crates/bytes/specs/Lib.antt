@@ -7,3 +7,4 @@ pub mod Leb128
 pub mod Reader
 pub mod Address
 pub mod Written
+pub mod Sizes

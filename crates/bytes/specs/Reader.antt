@@ -38,7 +38,7 @@ partOf s offset len = pick (leb (offset + len) (length s)) (take len (drop offse
 
 -- the address sizes that are read
 unfoldable pub isSize : ℕ → Bool
-isSize n = eqb n 1 || eqb n 2 || eqb n 4 || eqb n 8
+isSize n = eqb n 1 || eqb n 2 || eqb n 3 || eqb n 4 || eqb n 8
 
 unfoldable pub address : RunTimeEndian → ℕ → List ℕ → ℕ → Read ℕ
 address endian size s at = pick (isSize size) (uint endian size s at) (refusal (UnsupportedAddressSize size))

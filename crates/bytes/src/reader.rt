@@ -68,20 +68,13 @@ pub fn part(s: &[u8], offset: usize, len: usize) -> &[u8]
     &s[offset..end]
 }
 
-// Whether addresses of a size are read.
+// Whether addresses of a size are read: 1, 2, 3, 4 or 8. By one comparison, which the compiler sees to be the same in a walk's loop as
+// before it: of size - 1 nothing may be left above 7, and with size it may share the bit of 2 alone, as 3 does. The others share none.
 pub fn is_address_size(size: u64) -> bool
     ensures { λ r. ⌜ r ≡ isSize size ⌝ }
 {
-    if size == 1 {
-        return true;
-    }
-    if size == 2 {
-        return true;
-    }
-    if size == 4 {
-        return true;
-    }
-    size == 8
+    let below = std::num::wrapping_sub_u64(size, 1);
+    ((size & below) | (below / 8 * 8)) < 3
 }
 
 // A number of size bytes.

@@ -7,13 +7,13 @@ use Rattle.bytes.specs.Read.{gives, refused}
 use Rattle.bytes.specs.Endianity.{little}
 use Rattle.bytes.specs.Reader.{skip, uint, isSize, address}
 use Rattle.bytes.specs.declared.common.Format.the-variants.{Dwarf32}
-use Rattle.bytes.specs.declared.endianity.RunTimeEndian.the-variants.{Little}
+use Rattle.bytes.specs.declared.endianity.RunTimeEndian.the-variants.{Little, Big}
 use Rattle.entries.specs.Kinds.{rangeKinds, kindOf, coded, rangeEntry, rawAt}
 use Rattle.lists.specs.Open.{opened}
 use Rattle.lists.specs.Convert.{convert}
 use Rattle.lists.specs.Walk.{traceFrom, trace}
 use Rattle.coverage.specs.Ranges.{insert, inserts}
-use Rattle.coverage.specs.Covered.{Source, rangeList, yieldedIn, traceOf, yieldedOf, coverageOf}
+use Rattle.coverage.specs.Covered.{Source, source, rangeList, yieldedIn, traceOf, yieldedOf, coverageOf}
 use Rattle.coverage.specs.Kept.{lawfulFrom}
 use Rattle.bytes.specs.Written.{littleBytes, unsignedIn}
 use Rattle.sheets.specs.Sheet.{addressBytes, sheetBytes, addressesIn, isSheet, sheetRanges}
@@ -38,6 +38,17 @@ unfolding
     list canonicalOf coverageOf yieldedOf yieldedIn traceOf opened trace traceFrom convert rawAt rangeEntry coded kindOf rangeKinds address uint skip isSize little
     inserts insert canonicalBytes entryBytes littleBytes unsignedIn
 canonical = refl
+
+-- the same addresses by one range of a list of address size 3, in the other byte order
+narrow : Source
+narrow =
+    source rangeList (record { «address_size» = 3; format = Dwarf32; version = 5 }) Big (0x06 ∷ 0 ∷ 0 ∷ 0x10 ∷ 0 ∷ 0 ∷ 0x30 ∷ 0 ∷ []) 0 0 [] (record { 0 = 0 })
+
+canonical-narrow : canonicalOf narrow ≡ canonicalOf list
+unfolding
+    list narrow canonicalOf coverageOf yieldedOf yieldedIn traceOf opened trace traceFrom convert rawAt rangeEntry coded kindOf rangeKinds address uint skip isSize little
+    inserts insert canonicalBytes entryBytes littleBytes unsignedIn
+canonical-narrow = refl
 
 no-sheet : sheetRanges (0x01 ∷ 0 ∷ 0x08 ∷ 0 ∷ []) ≡ refused 12 []
 unfolding sheetRanges isSheet little

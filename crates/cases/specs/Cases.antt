@@ -14,6 +14,7 @@ use Rattle.bytes.specs.declared.UnitLength.{UnitLength}
 use Rattle.bytes.specs.declared.common.Encoding.{Encoding}
 use Rattle.bytes.specs.declared.common.Format.{Format}
 use Rattle.bytes.specs.declared.common.Format.the-variants.{Dwarf32, Dwarf64}
+use Rattle.bytes.specs.declared.endianity.RunTimeEndian.{RunTimeEndian}
 use Rattle.bytes.specs.declared.endianity.RunTimeEndian.the-variants.{Little}
 use Rattle.tables.specs.Header.{fields, head}
 use Rattle.tables.specs.Lists.{Parsed, parsed, listsHeader}
@@ -31,31 +32,31 @@ use Rattle.lists.specs.Open.{walkAt, opened}
 use Rattle.lists.specs.Walk.{ranges, locations, Item, item, Trace, over, traceFrom, trace, next, nextRange, handed}
 use Rattle.lists.specs.declared.Walk.{Walk}
 
-abbrev enc : ℕ → ℕ → Encoding
+abbrev pub enc : ℕ → ℕ → Encoding
 enc version size = record { «address_size» = size; format = Dwarf32; version = version }
 
 -- the address table of docs/SCOPE.md; its addresses start at 8
 abbrev table : List ℕ
 table = 0x0c ∷ 0x00 ∷ 0x00 ∷ 0x00 ∷ 0x05 ∷ 0x00 ∷ 0x04 ∷ 0x00 ∷ 0x10 ∷ 0x00 ∷ 0x00 ∷ 0x00 ∷ 0x20 ∷ 0x00 ∷ 0x00 ∷ 0x00 ∷ []
 
--- a list by its address table and that table's base, then version, address size, bytes, offset and base address
-rangesIn : List ℕ → ℕ → ℕ → ℕ → List ℕ → ℕ → ℕ → Result (Trace Unit)
+-- a list by its byte order, its address table and that table's base, then version, address size, bytes, offset and base address
+unfoldable pub rangesIn : RunTimeEndian → List ℕ → ℕ → ℕ → ℕ → List ℕ → ℕ → ℕ → Result (Trace Unit)
 unfolding opened trace traceFrom convert addressAt rowAt rangeEntry rawAt coded bare ofPair kindOf rangeKinds address skip uint isSize little unsigned unsignedFrom
-rangesIn t b version size s offset base =
+rangesIn endian t b version size s offset base =
     andThen (opened (enc version size) s offset base)
-    (λ w. gives (trace (ranges (enc version size) Little s) (tableAt Little (enc version size) (record { 0 = b }) t) size (length s) w))
+    (λ w. gives (trace (ranges (enc version size) endian s) (tableAt endian (enc version size) (record { 0 = b }) t) size (length s) w))
 
 abbrev range : ℕ → ℕ → List ℕ → ℕ → ℕ → Result (Trace Unit)
-range version size s offset base = rangesIn table 8 version size s offset base
+range version size s offset base = rangesIn Little table 8 version size s offset base
 
-location : Bool → ℕ → ℕ → List ℕ → ℕ → ℕ → Result (Trace Expression)
+unfoldable pub location : Bool → ℕ → ℕ → List ℕ → ℕ → ℕ → Result (Trace Expression)
 unfolding
     opened trace traceFrom convert addressAt rowAt locationEntry rawAt coded bare ofPair kindOf locationKinds versionedLength block split address skip uint isSize little unsigned unsignedFrom
 location dwo version size s offset base =
     andThen (opened (enc version size) s offset base)
     (λ w. gives (trace (locations dwo (enc version size) Little s) (tableAt Little (enc version size) (record { 0 = 8 }) table) size (length s) w))
 
-abbrev expression : ℕ → ℕ → Expression
+abbrev pub expression : ℕ → ℕ → Expression
 expression offset len = record { offset = offset; len = len }
 
 -- `00`; the empty section
@@ -164,7 +165,7 @@ unfolding calls
 by-calls = refl
 
 -- the address table: rows by index, by address size, base, index and bytes
-row : ℕ → ℕ → ℕ → List ℕ → Result ℕ
+unfoldable pub row : ℕ → ℕ → ℕ → List ℕ → Result ℕ
 unfolding addressAt rowAt address skip uint isSize little
 row size base index s = addressAt Little size (record { 0 = base }) (record { 0 = index }) s
 
@@ -197,11 +198,11 @@ unfolding headers
 no-more-headers = refl
 
 -- the address table: its entries one after the other, from its header on; what is left is at a place, with a length
-entries : List ℕ → AddrEntryIter → Next ℕ AddrEntryIter
+unfoldable pub entries : List ℕ → AddrEntryIter → Next ℕ AddrEntryIter
 unfolding nextEntry partOf address skip uint isSize little
 entries s w = nextEntry Little s w
 
-abbrev left : ℕ → ℕ → ℕ → AddrEntryIter
+abbrev pub left : ℕ → ℕ → ℕ → AddrEntryIter
 left size at len = record { entries = record { offset = at; len = len }; encoding = enc 5 size }
 
 entry-0 : entries table (entriesOf header) ≡ hands (gives 0x10) (left 4 12 4)
@@ -272,7 +273,7 @@ unfolding location
 refusal-4 = refl
 
 -- rows 5 to 8, and 1 for a header: unit past the section's end, unit without the entry count, no bytes
-lists : List ℕ → Result Parsed
+unfoldable pub lists : List ℕ → Result Parsed
 unfolding listsHeader head fields initialLength truncate addressSize skip uint isSize little
 lists s = listsHeader Little s 0
 
@@ -286,8 +287,8 @@ refusal-5 : lists (0x08 ∷ 0x00 ∷ 0x00 ∷ 0x00 ∷ 0x04 ∷ 0x00 ∷ 0x04 �
 unfolding lists
 refusal-5 = refl
 
-refusal-6 : lists (0x08 ∷ 0x00 ∷ 0x00 ∷ 0x00 ∷ 0x05 ∷ 0x00 ∷ 0x03 ∷ 0x00 ∷ 0x00 ∷ 0x00 ∷ 0x00 ∷ 0x00 ∷ [])
-    ≡ refused 6 (0x03 ∷ [])
+refusal-6 : lists (0x08 ∷ 0x00 ∷ 0x00 ∷ 0x00 ∷ 0x05 ∷ 0x00 ∷ 0x05 ∷ 0x00 ∷ 0x00 ∷ 0x00 ∷ 0x00 ∷ 0x00 ∷ [])
+    ≡ refused 6 (0x05 ∷ [])
 unfolding lists
 refusal-6 = refl
 
@@ -356,12 +357,12 @@ unfolding offset
 offset-sum = refl
 
 -- open point 1: a begin is looked up before its end (size 8, no table; the index 2^61 gives 9, the index 0 gives 1)
-lost-begin : rangesIn [] 0 5 8 (0x02 ∷ 0x80 ∷ 0x80 ∷ 0x80 ∷ 0x80 ∷ 0x80 ∷ 0x80 ∷ 0x80 ∷ 0x80 ∷ 0x20 ∷ 0x00 ∷ 0x00 ∷ []) 0 0
+lost-begin : rangesIn Little [] 0 5 8 (0x02 ∷ 0x80 ∷ 0x80 ∷ 0x80 ∷ 0x80 ∷ 0x80 ∷ 0x80 ∷ 0x80 ∷ 0x80 ∷ 0x20 ∷ 0x00 ∷ 0x00 ∷ []) 0 0
     ≡ gives (handed (refused 9 []) (walkAt 11 0) (over (walkAt 12 0)))
 unfolding rangesIn
 lost-begin = refl
 
-lost-end : rangesIn [] 0 5 8 (0x02 ∷ 0x00 ∷ 0x80 ∷ 0x80 ∷ 0x80 ∷ 0x80 ∷ 0x80 ∷ 0x80 ∷ 0x80 ∷ 0x80 ∷ 0x20 ∷ 0x00 ∷ []) 0 0
+lost-end : rangesIn Little [] 0 5 8 (0x02 ∷ 0x00 ∷ 0x80 ∷ 0x80 ∷ 0x80 ∷ 0x80 ∷ 0x80 ∷ 0x80 ∷ 0x80 ∷ 0x80 ∷ 0x20 ∷ 0x00 ∷ []) 0 0
     ≡ gives (handed (refused 1 []) (walkAt 11 0) (over (walkAt 12 0)))
 unfolding rangesIn
 lost-end = refl
@@ -382,11 +383,11 @@ unfolding calls
 end-again = refl
 
 -- open point 6: in an address table the size is refused after the tests of base and index
-size-after-base : row 3 1 0 [] ≡ refused 1 []
+size-after-base : row 5 1 0 [] ≡ refused 1 []
 unfolding row
 size-after-base = refl
 
-size-last : row 3 0 0 [] ≡ refused 6 (0x03 ∷ [])
+size-last : row 5 0 0 [] ≡ refused 6 (0x05 ∷ [])
 unfolding row
 size-last = refl
 

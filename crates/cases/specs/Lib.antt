@@ -1,4 +1,5 @@
 pub mod Cases
 pub mod CanonicalCases
 pub mod TableHeaders
+pub mod ThreeBytes
 pub mod Pinned

@@ -34,46 +34,46 @@ use Rattle.coverage.specs.declared.Coverage.{Coverage}
 abbrev enc : ℕ → Encoding
 enc size = record { «address_size» = size; format = Dwarf32; version = 5 }
 
--- address size 3 is refused with 6 and the size: an opening before its offset is looked at; a call on a walk before its
+-- address size 5 is refused with 6 and the size: an opening before its offset is looked at; a call on a walk before its
 -- bytes are, and the walk is emptied; a conversion leaves the walk as it was
-opening-size : opened (enc 3) [] 1 0 ≡ refused 6 (3 ∷ [])
+opening-size : opened (enc 5) [] 1 0 ≡ refused 6 (5 ∷ [])
 unfolding opened isSize
 opening-size = refl
 
 abbrev two : List ℕ
 two = 0x08 ∷ 0x09 ∷ []
 
-range-size : nextRange (enc 3) Little two [] (record { 0 = 0 }) (walkAt 0 7) ≡ hands (refused 6 (3 ∷ [])) (walkAt 2 7)
+range-size : nextRange (enc 5) Little two [] (record { 0 = 0 }) (walkAt 0 7) ≡ hands (refused 6 (5 ∷ [])) (walkAt 2 7)
 unfolding next isSize
 range-size = refl
 
-location-size : nextLocation false (enc 3) Little two [] (record { 0 = 0 }) (walkAt 0 7) ≡ hands (refused 6 (3 ∷ [])) (walkAt 2 7)
+location-size : nextLocation false (enc 5) Little two [] (record { 0 = 0 }) (walkAt 0 7) ≡ hands (refused 6 (5 ∷ [])) (walkAt 2 7)
 unfolding next isSize
 location-size = refl
 
-raw-range-size : nextRawRange (enc 3) Little two (walkAt 0 7) ≡ hands (refused 6 (3 ∷ [])) (walkAt 2 7)
+raw-range-size : nextRawRange (enc 5) Little two (walkAt 0 7) ≡ hands (refused 6 (5 ∷ [])) (walkAt 2 7)
 unfolding nextRaw isSize
 raw-range-size = refl
 
-raw-location-size : nextRawLocation false (enc 3) Little two (walkAt 0 7) ≡ hands (refused 6 (3 ∷ [])) (walkAt 2 7)
+raw-location-size : nextRawLocation false (enc 5) Little two (walkAt 0 7) ≡ hands (refused 6 (5 ∷ [])) (walkAt 2 7)
 unfolding nextRaw isSize
 raw-location-size = refl
 
-converted-range-size : convertedRange (enc 3) Little [] (record { 0 = 0 }) (walkAt 1 7) (rng.BaseAddress 9)
-    ≡ comes (refused 6 (3 ∷ [])) (walkAt 1 7)
+converted-range-size : convertedRange (enc 5) Little [] (record { 0 = 0 }) (walkAt 1 7) (rng.BaseAddress 9)
+    ≡ comes (refused 6 (5 ∷ [])) (walkAt 1 7)
 unfolding convertRaw isSize
 converted-range-size = refl
 
-converted-location-size : convertedLocation (enc 3) Little [] (record { 0 = 0 }) (walkAt 1 7) (loc.BaseAddress 9)
-    ≡ comes (refused 6 (3 ∷ [])) (walkAt 1 7)
+converted-location-size : convertedLocation (enc 5) Little [] (record { 0 = 0 }) (walkAt 1 7) (loc.BaseAddress 9)
+    ≡ comes (refused 6 (5 ∷ [])) (walkAt 1 7)
 unfolding convertRaw isSize
 converted-location-size = refl
 
--- an address of a table of size 3 is refused so too, and nothing of the table is left
+-- an address of a table of size 5 is refused so too, and nothing of the table is left
 abbrev left : ℕ → ℕ → AddrEntryIter
-left at len = record { entries = record { offset = at; len = len }; encoding = enc 3 }
+left at len = record { entries = record { offset = at; len = len }; encoding = enc 5 }
 
-entry-size : nextEntry Little two (left 0 2) ≡ hands (refused 6 (3 ∷ [])) (left 2 0)
+entry-size : nextEntry Little two (left 0 2) ≡ hands (refused 6 (5 ∷ [])) (left 2 0)
 unfolding nextEntry partOf address isSize
 entry-size = refl
 

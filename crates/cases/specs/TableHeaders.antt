@@ -81,9 +81,9 @@ version-4 : header Little (0x04 ∷ 0x00 ∷ 0x00 ∷ 0x00 ∷ 0x04 ∷ 0x00 ∷
 unfolding header
 version-4 = refl
 
-size-3 : header Little (0x04 ∷ 0x00 ∷ 0x00 ∷ 0x00 ∷ 0x05 ∷ 0x00 ∷ 0x03 ∷ 0x00 ∷ []) 0 ≡ refused 6 (3 ∷ [])
+size-5 : header Little (0x04 ∷ 0x00 ∷ 0x00 ∷ 0x00 ∷ 0x05 ∷ 0x00 ∷ 0x05 ∷ 0x00 ∷ []) 0 ≡ refused 6 (5 ∷ [])
 unfolding header
-size-3 = refl
+size-5 = refl
 
 segments : header Little (0x04 ∷ 0x00 ∷ 0x00 ∷ 0x00 ∷ 0x05 ∷ 0x00 ∷ 0x04 ∷ 0x01 ∷ []) 0 ≡ refused 7 (1 ∷ [])
 unfolding header
@@ -93,7 +93,20 @@ reserved : header Little (0xf0 ∷ 0xff ∷ 0xff ∷ 0xff ∷ 0x05 ∷ 0x00 ∷ 
 unfolding header
 reserved = refl
 
--- the rule of older tables would pass over a byte for size 3, and over two in the 64-bit format
+-- the addresses of size 3 follow their header as well, where the rule of older tables would pass over a byte, or over two in the
+-- 64-bit format
+size-3 : header Little (0x0a ∷ 0x00 ∷ 0x00 ∷ 0x00 ∷ 0x05 ∷ 0x00 ∷ 0x03 ∷ 0x00 ∷ 0x10 ∷ 0x00 ∷ 0x00 ∷ 0x20 ∷ 0x00 ∷ 0x00 ∷ []) 0
+    ≡ gives (got (table 0 Dwarf32 3 10 8 6) 14)
+unfolding header
+size-3 = refl
+
+wide-3 : header Little
+    (0xff ∷ 0xff ∷ 0xff ∷ 0xff ∷ 0x0a ∷ 0x00 ∷ 0x00 ∷ 0x00 ∷ 0x00 ∷ 0x00 ∷ 0x00 ∷ 0x00 ∷ 0x05 ∷ 0x00 ∷ 0x03 ∷ 0x00
+    ∷ 0x10 ∷ 0x00 ∷ 0x00 ∷ 0x20 ∷ 0x00 ∷ 0x00 ∷ []) 0
+    ≡ gives (got (table 0 Dwarf64 3 10 16 6) 22)
+unfolding header
+wide-3 = refl
+
 padding-3 : padding (tableHeaderSize Dwarf32) 3 ≡ 1
 padding-3 = refl
 

@@ -7,3 +7,4 @@ pub mod Theorems
 pub mod CallLaws
 pub mod Bounds
 pub mod Local
+pub mod SizeLaws

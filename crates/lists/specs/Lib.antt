@@ -3,3 +3,4 @@ pub mod Convert
 pub mod Walk
 pub mod Yields
 pub mod Walks
+pub mod Sizes

@@ -2,7 +2,7 @@
 -- Assumes nothing.
 use mathlib.Core.Path.{_≡_, refl}
 use mathlib.Core.List.{List}
-use mathlib.Core.Logic.{inl, inr, ⊎-elim}
+use mathlib.Core.Logic.{⊎-elim}
 use Prim.Native.Nat.{ℕ, _+_, _≤_}
 use native.Mathlib.Omega.{arith}
 use lib.Dec.{eqb}
@@ -15,7 +15,7 @@ use Rattle.bytes.specs.declared.common.Format.the-variants.{Dwarf32, Dwarf64}
 use Rattle.bytes.specs.declared.UnitLength.{UnitLength}
 use Rattle.bytes.specs.declared.endianity.RunTimeEndian.{RunTimeEndian}
 use Rattle.bytes.specs.declared.endianity.RunTimeEndian.the-variants.{Little}
-use Rattle.bytes.proofs.ReaderLaws.{size-cases, skip-got}
+use Rattle.bytes.proofs.ReaderLaws.{skip-got}
 use Rattle.bytes.proofs.ReaderTook.{uint-moves}
 use Rattle.bytes.proofs.Took.{pick-ind}
 use Rattle.bytes.proofs.Inside.{Given, then-ind, initial-moves, address-size-moves, truncate-inside}
@@ -71,9 +71,12 @@ follow : (endian : RunTimeEndian) (s : List ℕ) (at : ℕ) {t : AddrHeader} {c 
 follow endian s at e = rw e at (follows endian s at)
 
 -- 8 and 16 are multiples of 1, 2, 4 and 8
+by-size : (P : ℕ → Type 0) {size : ℕ} → OneOfFour size → P 1 → P 2 → P 4 → P 8 → P size
+by-size P o a b c d = ⊎-elim (λ e. rw e a) (λ p. ⊎-elim (λ e. rw e b) (λ q. ⊎-elim (λ e. rw e c) (λ e. rw e d) q) p) o
+
 none-over : (format : Format) (size : ℕ) → OneOfFour size → padding (tableHeaderSize format) size ≡ 0
-none-over Dwarf32 size o = ⊎-elim (λ e. rw e) (λ p. ⊎-elim (λ e. rw e) (λ q. ⊎-elim (λ e. rw e) (λ e. rw e) q) p) o
-none-over Dwarf64 size o = ⊎-elim (λ e. rw e) (λ p. ⊎-elim (λ e. rw e) (λ q. ⊎-elim (λ e. rw e) (λ e. rw e) q) p) o
+none-over Dwarf32 size o = by-size (λ n. padding (tableHeaderSize Dwarf32) n ≡ 0) o refl refl refl refl
+none-over Dwarf64 size o = by-size (λ n. padding (tableHeaderSize Dwarf64) n ≡ 0) o refl refl refl refl
 
 -- no byte is passed over before the first address
 module _ (s : List ℕ) (at : ℕ) where
@@ -93,21 +96,10 @@ module _ (s : List ℕ) (at : ℕ) where
   same-header (gives (got h c)) f o = same-table h c (f h c refl) o
   same-header (refused n vs) f o = refl
 
-  fitting : (r : Read Head) → ((h : Head) (c : ℕ) → r ≡ gives (got h c) → Fits s h c) → SizeOneOfFour r
-  fitting (gives (got h c)) f =
-      size-cases (h .«address_size») (f h c refl .size) (λ e. inl e) (λ e. inr (inl e)) (λ e. inr (inr (inl e))) (λ e. inr (inr (inr e)))
-  fitting (refused n vs) f = tt
-
 reads-as-before : (endian : RunTimeEndian) (s : List ℕ) (at : ℕ) → SizeOneOfFour (head endian s at)
     → addrHeader endian s at ≡ paddedHeader endian s at
 unfolding addrHeader paddedHeader padded
 reads-as-before endian s at o = same-header s at (head endian s at) (λ h c e. head-fits endian s at e) o
 
 pub no-remainder : NoRemainder
-no-remainder =
-    record {
-      follow = follow;
-      none-over = none-over;
-      reads-as-before = reads-as-before;
-      every-header = λ endian s at. reads-as-before endian s at (fitting s at (head endian s at) (λ h c e. head-fits endian s at e));
-    }
+no-remainder = record { follow = follow; none-over = none-over; reads-as-before = reads-as-before }

@@ -45,8 +45,7 @@ pub record NoRemainder : Type 0 where
       → t .entries .offset ≡ at + tableHeaderSize (t .encoding .format)
   -- each of the four sizes divides both
   pub none-over : (format : Format) (size : ℕ) → OneOfFour size → padding (tableHeaderSize format) size ≡ 0
-  -- so that a header of such a size reads as before, and so does one that is refused
+  -- so that a header of such a size reads as before, and so does one that is refused. A header of another size may not: with the
+  -- rule, the addresses of size 3 would begin one byte later, or two in the 64-bit format
   pub reads-as-before : (endian : RunTimeEndian) (s : List ℕ) (at : ℕ) → SizeOneOfFour (head endian s at)
       → addrHeader endian s at ≡ paddedHeader endian s at
-  -- and as no other size is read, every header does
-  pub every-header : (endian : RunTimeEndian) (s : List ℕ) (at : ℕ) → addrHeader endian s at ≡ paddedHeader endian s at

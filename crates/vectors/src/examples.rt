@@ -16,10 +16,10 @@ use tables::addr::AddrHeaderIter;
 use tables::addr::NextEntry;
 use tables::addr::NextHeader;
 
-fn row(table: &[u8], label: &[u8], index: u64) {
+fn row(table: &[u8], size: u8, label: &[u8], index: u64) {
     let r = tables::addr::get_address(
         table,
-        4,
+        size,
         DebugAddrBase(8),
         DebugAddrIndex(index),
         RunTimeEndian::Little,
@@ -82,9 +82,19 @@ pub(crate) fn table() {
         0,
     ];
     headers_of(&table);
-    row(&table, b"table row 0:", 0);
-    row(&table, b"table row 1:", 1);
-    row(&table, b"table row 2:", 2);
+    row(&table, 4, b"table row 0:", 0);
+    row(&table, 4, b"table row 1:", 1);
+    row(&table, 4, b"table row 2:", 2);
+}
+
+pub(crate) fn table_of_three() {
+    let table = b"\x0a\0\0\0\x05\0\x03\0\x10\0\0\x20\0\0";
+    headers_of(table);
+    row(table, 3, b"size 3, table row 0:", 0);
+    row(table, 3, b"size 3, table row 1:", 1);
+    row(table, 3, b"size 3, table row 2:", 2);
+    row(table, 3, b"size 3, product 2^64 - 1:", 6148914691236517205);
+    row(table, 3, b"size 3, product 2^64 + 2:", 6148914691236517206);
 }
 
 fn range_offset(section: &[u8], label: &[u8], index: u64) {
@@ -138,6 +148,14 @@ pub(crate) fn orders() {
         bytes::reader::read_u16(&s, 0, RunTimeEndian::Big),
     );
     show::num(
+        b"3 bytes, little:",
+        bytes::reader::read_address(&s, 0, 3, RunTimeEndian::Little),
+    );
+    show::num(
+        b"3 bytes, big:",
+        bytes::reader::read_address(&s, 0, 3, RunTimeEndian::Big),
+    );
+    show::num(
         b"4 bytes, little:",
         bytes::reader::read_u32(&s, 0, RunTimeEndian::Little),
     );
@@ -157,14 +175,23 @@ pub(crate) fn orders() {
 
 pub(crate) fn addresses() {
     show::value(b"ones, size 1:", bytes::address::ones_sized(1));
+    show::value(b"ones, size 3:", bytes::address::ones_sized(3));
     show::value(b"ones, size 8:", bytes::address::ones_sized(8));
     show::value(
         b"tombstone bound, size 1:",
         bytes::address::min_tombstone(1),
     );
     show::value(
+        b"tombstone bound, size 3:",
+        bytes::address::min_tombstone(3),
+    );
+    show::value(
         b"tombstone bound, size 8:",
         bytes::address::min_tombstone(8),
+    );
+    show::value(
+        b"sum, size 3:",
+        bytes::address::wrapping_add_sized(0xffff00, 0x110, 3),
     );
     show::value(
         b"sum, size 4:",

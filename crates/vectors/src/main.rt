@@ -21,6 +21,7 @@ fn refusals() {
 
 fn good() {
     examples::table();
+    examples::table_of_three();
     headers::sizes();
     headers::wide();
     headers::placed();

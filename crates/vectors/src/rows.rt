@@ -61,7 +61,7 @@ pub(crate) fn headers() {
     let version = [0x08u8, 0, 0, 0, 0x04, 0, 0x04, 0, 0, 0, 0, 0];
     let r5 = ListsHeader::parse(&version, 0, RunTimeEndian::Little);
     show::lists(b"row 5:", r5);
-    let size = [0x08u8, 0, 0, 0, 0x05, 0, 0x03, 0, 0, 0, 0, 0];
+    let size = [0x08u8, 0, 0, 0, 0x05, 0, 0x05, 0, 0, 0, 0, 0];
     let r6 = ListsHeader::parse(&size, 0, RunTimeEndian::Little);
     show::lists(b"row 6:", r6);
     let segment = [0x08u8, 0, 0, 0, 0x05, 0, 0x04, 0x01, 0, 0, 0, 0];
@@ -84,4 +84,7 @@ pub(crate) fn lengths() {
     let good = [0x08u8, 0, 0, 0, 0x05, 0, 0x04, 0, 0, 0, 0, 0];
     let r = ListsHeader::parse(&good, 0, RunTimeEndian::Little);
     show::lists(b"header of lists:", r);
+    let three = [0x08u8, 0, 0, 0, 0x05, 0, 0x03, 0, 0, 0, 0, 0];
+    let r3 = ListsHeader::parse(&three, 0, RunTimeEndian::Little);
+    show::lists(b"header of lists, size 3:", r3);
 }

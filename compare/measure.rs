@@ -1,0 +1,138 @@
+//! Whose answers count: gimli's, and the model's at address size 3, which gimli
+//! refuses.
+
+use crate::differ::Port;
+use crate::model::Model;
+use generator::SIZES;
+use oracle::oracle_api::{self as gimli, *};
+
+/// Whether gimli reads addresses of a size.
+pub fn gimli_reads(size: u8) -> bool {
+    SIZES.contains(&size)
+}
+
+fn moved<T>((answer, after): (T, State), state: &mut State) -> T {
+    *state = after;
+    answer
+}
+
+/// A walk of gimli's, or the model's.
+pub enum Walk<'a> {
+    Gimli(gimli::Walk<'a>),
+    Model(List<'a>, State),
+}
+
+impl<'a> Walk<'a> {
+    pub fn open(list: &List<'a>) -> Result<Walk<'a>, Refusal> {
+        if gimli_reads(list.address_size) {
+            return gimli::Walk::open(list).map(Walk::Gimli);
+        }
+        Model.open(list).map(|state| Walk::Model(*list, state))
+    }
+
+    pub fn next(&mut self) -> Answer<Yielded> {
+        match self {
+            Walk::Gimli(walk) => walk.next(),
+            Walk::Model(list, state) => moved(Model.next(list, *state), state),
+        }
+    }
+
+    pub fn next_raw(&mut self) -> Answer<Raw> {
+        match self {
+            Walk::Gimli(walk) => walk.next_raw(),
+            Walk::Model(list, state) => moved(Model.next_raw(list, *state), state),
+        }
+    }
+
+    pub fn convert_raw(&mut self, entry: Raw) -> Converted {
+        match self {
+            Walk::Gimli(walk) => walk.convert_raw(entry),
+            Walk::Model(list, state) => moved(Model.convert_raw(list, *state, entry), state),
+        }
+    }
+
+    pub fn state(&self) -> State {
+        match self {
+            Walk::Gimli(walk) => walk.state(),
+            Walk::Model(_, state) => *state,
+        }
+    }
+
+    /// Every answer of `next` up to the first end; a refusal at opening is the
+    /// only one.
+    pub fn answers(list: &List) -> Vec<Answer<Yielded>> {
+        match Walk::open(list) {
+            Ok(mut walk) => trace(usize::MAX, || walk.next()),
+            Err(refusal) => vec![Answer::Refused(refusal)],
+        }
+    }
+}
+
+/// The tables of a section with the entries of the last one, by gimli, or by the
+/// model where gimli meets size 3 anywhere in the section.
+pub enum Tables<'a> {
+    Gimli(gimli::Tables<'a>, Option<gimli::Entries<'a>>),
+    Model { section: &'a [u8], big_endian: bool, place: u64, size: u8, rest: Place },
+}
+
+impl<'a> Tables<'a> {
+    pub fn open(section: &'a [u8], big_endian: bool) -> Tables<'a> {
+        let gimli = || gimli::Tables::open(section, big_endian);
+        let mut tables = gimli();
+        let answers = trace(usize::MAX, || tables.next().map(|_| ()));
+        if !answers.contains(&Answer::Refused(THREE)) {
+            return Tables::Gimli(gimli(), None);
+        }
+        let rest = Place { offset: 0, length: 0 };
+        Tables::Model { section, big_endian, place: 0, size: 0, rest }
+    }
+
+    pub fn by_model(&self) -> bool {
+        matches!(self, Tables::Model { .. })
+    }
+
+    pub fn next(&mut self) -> Answer<Table> {
+        match self {
+            Tables::Gimli(tables, last) => tables.next().map(|(table, entries)| {
+                *last = Some(entries);
+                table
+            }),
+            Tables::Model { section, big_endian, place, size, rest } => {
+                let (answer, after) = Model.next_table(section, *big_endian, *place);
+                *place = after;
+                answer.map(|table| {
+                    (*size, *rest) = (table.address_size, table.entries);
+                    table
+                })
+            }
+        }
+    }
+
+    /// The place of the next table.
+    pub fn place(&self) -> u64 {
+        match self {
+            Tables::Gimli(tables, _) => tables.place(),
+            Tables::Model { place, .. } => *place,
+        }
+    }
+
+    /// The next entry of the last table.
+    pub fn next_entry(&mut self) -> Answer<u64> {
+        match self {
+            Tables::Gimli(_, entries) => entries.as_mut().expect("a table").next(),
+            Tables::Model { section, big_endian, size, rest, .. } => {
+                let (answer, after) = Model.next_entry(section, *big_endian, *size, *rest);
+                *rest = after;
+                answer
+            }
+        }
+    }
+
+    /// How many bytes of its entries are left.
+    pub fn left(&self) -> u64 {
+        match self {
+            Tables::Gimli(_, entries) => entries.as_ref().expect("a table").left(),
+            Tables::Model { rest, .. } => rest.length,
+        }
+    }
+}
