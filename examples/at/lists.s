@@ -1,5 +1,6 @@
 # A unit of DWARF 5 by hand, for what no compiler writes: a default location, locations that overlap, and, by the symbols
-# that the assembler is given, an attribute that is missing (NO_..) or a list that is refused (BAD_KIND).
+# that the assembler is given, an attribute that is missing (NO_..), a list that is refused (BAD_KIND), or another address
+# size (THREE_BYTES).
 
         .text
         .globl  _start
@@ -37,7 +38,12 @@ _start: .fill   0x20, 1, 0x90
         .section .debug_info,"",@progbits
         .long   2f - 1f
 1:      .short  5
-        .byte   1, 8                    # DW_UT_compile, addresses of 8 bytes
+        .byte   1                       # DW_UT_compile
+        .ifdef  THREE_BYTES
+        .byte   3                       # addresses of 3 bytes, though what follows has 8
+        .else
+        .byte   8                       # addresses of 8 bytes
+        .endif
         .long   .debug_abbrev
         .uleb128 1
         .asciz  "lists.s"
