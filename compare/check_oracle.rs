@@ -511,10 +511,16 @@ fn open_points(c: &mut Check) {
 fn differences(c: &mut Check) {
     use Kind::*;
     let end = Answer::End;
-    // Size 3: the port refuses with 6 when the list is opened.
-    let b = bytes("04 01 02 06 00 00 00 00");
+    // Size 5: the port refuses with 6 when the list is opened.
+    let b = bytes("04 01 02 06 00 00 00 00 00 00");
+    let l = List { address_size: 5, ..list(Ranges, &b) };
+    c.same("size 5", walk(&l, 9), vec![range(1, 2), refused(6, 5), end]);
+    // Size 3: the port reads it.
+    let b = bytes("06 10 00 00 20 00 00 00");
     let l = List { address_size: 3, ..list(Ranges, &b) };
-    c.same("size 3", walk(&l, 9), vec![range(1, 2), refused(6, 3), end]);
+    c.same("size 3", walk(&l, 9), vec![refused(6, 3), end]);
+    let b = bytes("0a 00 00 00 05 00 03 00 10 00 00 20 00 00");
+    c.same("table of size 3", Tables::open(&b, false).next().is(), Answer::Refused(THREE));
     // The port refuses with 9.
     let b = bytes("aa ff ff ff ff ff ff ff ff");
     let got = get_offset(Ranges, &b, false, true, 1, 0);
