@@ -103,6 +103,8 @@ static void (*volatile old)(void *, size_t) = make_old;
 #define CUT_SHORT REFUSED(YZ_UNEXPECTED_EOF, 0)
 #define BAD_SIZE(size) REFUSED(YZ_UNSUPPORTED_ADDRESS_SIZE, size)
 #define TOO_FAR REFUSED(YZ_UNSUPPORTED_OFFSET, 0)
+#define TOO_MANY REFUSED(YZ_TOO_MANY_RANGES, 0)
+#define NO_ROOM REFUSED(YZ_NO_SPACE, 0)
 
 /* A byte string and its length, without the last 0. */
 #define S(bytes) (const uint8_t *)(bytes), sizeof(bytes) - 1
@@ -186,7 +188,7 @@ static void layout(void) {
     FIELD(walk, at, 0);
     FIELD(walk, base_address, 8);
     FIELD(walk, split, 16);
-    SIZE(bounds, 8 * YZ_LIMIT);
+    SIZE(bounds, 8 * 3000);
     SIZE(range_entry, 24);
     FIELD(range_entry, kind, 0);
     FIELD(range_entry, first, 8);
@@ -238,6 +240,7 @@ static void layout(void) {
 
 static void test_version(void) {
     CHECK(yz_version() == YZ_VERSION);
+    CHECK(YZ_LIMIT == 3000 && YZ_SHEET_MAX == 48004 && YZ_CANONICAL_MAX == 57001);
     layout();
     CHECK(strcmp(yz_refusal_name(YZ_NO_REFUSAL), "") == 0);
     CHECK(strcmp(yz_refusal_name((yz_refusal)13), "") == 0);
@@ -1161,19 +1164,23 @@ static void age(void) {
 
 static bool range_is(size_t i, uint64_t begin, uint64_t end) { return begins.at[i] == begin && ends.at[i] == end; }
 
-/* n entries `07 begin 01` of address size 4, each begin two above the one before. */
-static uint8_t apart[6 * (YZ_LIMIT + 1)];
+/* n entries `07 begin 01` of address size 4, each begin a step above the one before, and a byte behind them. */
+static uint8_t entries[6 * (YZ_LIMIT + 1) + 1];
 
-static const uint8_t *make_apart(size_t n) {
+static const uint8_t *make_entries(size_t n, size_t first, size_t step, uint8_t behind) {
     size_t i;
     for (i = 0; i < n; i++) {
-        const uint8_t entry[6] = {7, (uint8_t)(2 * i), (uint8_t)(2 * i / 256), 0, 0, 1};
-        memcpy(apart + 6 * i, entry, 6);
+        const size_t begin = first + step * i;
+        const uint8_t entry[6] = {7, (uint8_t)begin, (uint8_t)(begin / 256), 0, 0, 1};
+        memcpy(entries + 6 * i, entry, 6);
     }
-    return apart;
+    entries[6 * n] = behind;
+    return entries;
 }
 
-#define APART(n) make_apart(n), 6 * (n)
+/* Two apart, and without an end mark; and the scope's list for refusal 10, the same range n times, and a byte. */
+#define APART(n) make_entries(n, 0, 2, 0), 6 * (n)
+#define SAME(n, behind) make_entries(n, 0x10, 0, behind), 6 * (n) + 1
 #define COVER(list, encoding, offset) yz_range_coverage(list, TABLE, 8, encoding, offset, 0, &begins, &ends)
 
 static void test_range_coverage(void) {
@@ -1184,7 +1191,11 @@ static void test_range_coverage(void) {
     COVERS(COVER(NO_BYTES, little(5, 4), 0), 0);
     COVERS(COVER(S("\0"), little(5, 4), 1), 0);
     COVERS(COVER(APART(YZ_LIMIT), little(5, 4), 0), YZ_LIMIT);
-    CHECK(range_is(0, 0, 1) && range_is(YZ_LIMIT - 1, 2 * YZ_LIMIT - 2, 2 * YZ_LIMIT - 1));
+    CHECK(range_is(0, 0, 1) && range_is(2999, 5998, 5999));
+    COVERS(COVER(APART(1025), little(5, 4), 0), 1025);
+    CHECK(range_is(0, 0, 1) && range_is(1024, 2048, 2049));
+    COVERS(COVER(SAME(3000, 0), little(5, 4), 0), 1);
+    CHECK(range_is(0, 0x10, 0x11));
     COVERS(yz_range_coverage(S("\x09\x01\x03\0\0"), NO_BYTES, 0, big(4, 1), 1, 0x40, &begins, &ends), 1);
     CHECK(range_is(0, 0x41, 0x43));
     COVERS(COVER(S("\x07\x20\0\0\x10\x07\x10\0\0\x10\0"), little(5, 3), 0), 1);
@@ -1202,7 +1213,11 @@ static void test_range_coverage(void) {
     CHECK(range_is(0, 0xfffe, 0x010000));
     REFUSES_COVERAGE(COVER(S("\x07\x20\0\0\x10\x06\x10\0"), little(5, 3), 0), CUT_SHORT);
     REFUSES_COVERAGE(COVER(NO_BYTES, little(5, 3), 1), CUT_SHORT);
-    REFUSES_COVERAGE(COVER(APART(YZ_LIMIT + 1), little(5, 4), 0), REFUSED(YZ_TOO_MANY_RANGES, 0));
+    REFUSES_COVERAGE(COVER(APART(YZ_LIMIT + 1), little(5, 4), 0), TOO_MANY);
+    REFUSES_COVERAGE(COVER(SAME(3001, 0), little(5, 4), 0), TOO_MANY);
+    /* The first of the two. */
+    REFUSES_COVERAGE(COVER(SAME(3000, 8), little(5, 4), 0), REFUSED(YZ_UNKNOWN_RANGE_LISTS_ENTRY, 8));
+    REFUSES_COVERAGE(COVER(SAME(3001, 8), little(5, 4), 0), TOO_MANY);
     REFUSES_COVERAGE(COVER(S("\x07\x20\0\0\0\x10\x08"), little(5, 4), 0), REFUSED(YZ_UNKNOWN_RANGE_LISTS_ENTRY, 8));
     REFUSES_COVERAGE(COVER(S("\x07\x20\0\0\0\x10\x02\0\x02\0"), little(5, 4), 0), CUT_SHORT);
     REFUSES_COVERAGE(COVER(TOUCHING, little(5, 4), MAX), CUT_SHORT);
@@ -1210,23 +1225,127 @@ static void test_range_coverage(void) {
     REFUSES_COVERAGE(COVER(NO_BYTES, little(5, 4), 1), CUT_SHORT);
 }
 
+/* Two arrays with places past what a list may have; slices of them are lent. */
+static uint64_t run_begins[YZ_LIMIT + 2], run_ends[YZ_LIMIT + 2];
+
+static void age_runs(void) {
+    memset(run_begins, OLD, sizeof run_begins);
+    memset(run_ends, OLD, sizeof run_ends);
+}
+
+static bool runs_old_from(size_t n) {
+    return all_old(run_begins + n, sizeof run_begins - 8 * n) && all_old(run_ends + n, sizeof run_ends - 8 * n);
+}
+
+static bool run_is(size_t i, uint64_t begin, uint64_t end) { return run_begins[i] == begin && run_ends[i] == end; }
+
+/* A call that puts n ranges at the front, and leaves the places past them as they were. */
+#define PUTS(call, n)                                                                                                \
+    do {                                                                                                             \
+        age_runs();                                                                                                  \
+        IS(count, call, DONE, n);                                                                                    \
+        check(runs_old_from(n), __LINE__, "untouched past the count: " #call);                                       \
+    } while (0)
+
+#define REFUSES_RUNS(call, ...)                                                                                      \
+    do {                                                                                                             \
+        age_runs();                                                                                                  \
+        IS(count, call, __VA_ARGS__);                                                                                \
+        check(runs_old_from(0), __LINE__, "untouched: " #call);                                                      \
+    } while (0)
+
+/* So many places of each. */
+#define INTO(b, e) run_begins, b, run_ends, e
+#define RUNS(list, encoding, offset, b, e) yz_range_runs(list, TABLE, 8, encoding, offset, 0, INTO(b, e))
+
+static void test_range_runs(void) {
+    size_t b, e;
+    PUTS(RUNS(TOUCHING, little(5, 4), 0, 1, 1), 1);
+    CHECK(run_is(0, 0x10, 0x30));
+    PUTS(RUNS(TOUCHING, little(5, 4), 0, 2, 2), 1);
+    CHECK(run_is(0, 0x10, 0x30));
+    REFUSES_RUNS(RUNS(TOUCHING, little(5, 4), 0, 0, 0), NO_ROOM);
+    REFUSES_RUNS(yz_range_runs(TOUCHING, NO_BYTES, 0, little(5, 4), 0, 0, NO_BYTES, NO_BYTES), NO_ROOM);
+    /* Two ranges into slices of every two lengths. */
+#define LIST S("\x03\x01\x08\x03\0\x04\0")
+    for (b = 0; b < 5; b++)
+        for (e = 0; e < 5; e++) {
+            if (b < 2 || e < 2) {
+                REFUSES_RUNS(RUNS(LIST, little(5, 4), 0, b, e), NO_ROOM);
+                continue;
+            }
+            PUTS(RUNS(LIST, little(5, 4), 0, b, e), 2);
+            CHECK(run_is(0, 0x10, 0x14) && run_is(1, 0x20, 0x28));
+        }
+    PUTS(RUNS(LIST, little(5, 4), 0, 2, YZ_LIMIT), 2);
+    PUTS(RUNS(LIST, little(5, 4), 0, YZ_LIMIT, 2), 2);
+    PUTS(yz_range_runs(LIST, TABLE_3, 8, little(5, 3), 0, 0, INTO(2, 2)), 2);
+    CHECK(run_is(0, 0x10, 0x14) && run_is(1, 0x20, 0x28));
+#undef LIST
+    /* No range needs no place. */
+    PUTS(RUNS(NO_BYTES, little(5, 4), 0, 0, 0), 0);
+    PUTS(RUNS(NO_BYTES, little(5, 4), 0, 3, 3), 0);
+    PUTS(yz_range_runs(S("\0"), NO_BYTES, 0, little(5, 4), 1, 0, NO_BYTES, NO_BYTES), 0);
+    PUTS(yz_range_runs(S("\x09\x01\x03\0\0"), NO_BYTES, 0, big(4, 1), 1, 0x40, INTO(1, 1)), 1);
+    CHECK(run_is(0, 0x41, 0x43));
+    PUTS(RUNS(S("\x06\x01\x02\x03\x04\x05\x06\x07\0\0\x01\x01\0"), big(5, 3), 0, 2, 2), 2);
+    CHECK(run_is(0, 1, 2) && run_is(1, 0x010203, 0x040506));
+    /* As many as short arrays have room for, one more, as many as the limit before, one more, and as many as may be. */
+    {
+        const size_t counts[] = {32, 33, 1024, 1025, 3000};
+        size_t i;
+        for (i = 0; i < sizeof counts / sizeof *counts; i++) {
+            const size_t n = counts[i];
+            PUTS(RUNS(APART(n), little(5, 4), 0, n, n), n);
+            CHECK(run_is(0, 0, 1) && run_is(n - 1, 2 * n - 2, 2 * n - 1));
+            PUTS(RUNS(APART(n), little(5, 4), 0, n + 1, n + 2), n);
+            REFUSES_RUNS(RUNS(APART(n), little(5, 4), 0, n - 1, n), NO_ROOM);
+            REFUSES_RUNS(RUNS(APART(n), little(5, 4), 0, n, n - 1), NO_ROOM);
+            REFUSES_RUNS(RUNS(APART(n), little(5, 4), 0, 0, 0), NO_ROOM);
+        }
+    }
+    PUTS(RUNS(SAME(3000, 0), little(5, 4), 0, 1, 1), 1);
+    CHECK(run_is(0, 0x10, 0x11));
+    REFUSES_RUNS(RUNS(SAME(3000, 0), little(5, 4), 0, 0, 0), NO_ROOM);
+    /* 11 comes last: 10 and what a walk or its opening is refused with come before it, the first of them. */
+    REFUSES_RUNS(RUNS(APART(3001), little(5, 4), 0, 3001, 3001), TOO_MANY);
+    REFUSES_RUNS(RUNS(SAME(3001, 0), little(5, 4), 0, 1, 1), TOO_MANY);
+    REFUSES_RUNS(RUNS(SAME(3001, 0), little(5, 4), 0, 0, 0), TOO_MANY);
+    REFUSES_RUNS(RUNS(SAME(3000, 8), little(5, 4), 0, 0, 0), REFUSED(YZ_UNKNOWN_RANGE_LISTS_ENTRY, 8));
+    REFUSES_RUNS(RUNS(SAME(3001, 8), little(5, 4), 0, 0, 0), TOO_MANY);
+    REFUSES_RUNS(RUNS(S("\x07\x20\0\0\0\x10\x08"), little(5, 4), 0, 1, 1), REFUSED(YZ_UNKNOWN_RANGE_LISTS_ENTRY, 8));
+    REFUSES_RUNS(RUNS(S("\x07\x20\0\0\0\x10\x08"), little(5, 4), 0, 0, 0), REFUSED(YZ_UNKNOWN_RANGE_LISTS_ENTRY, 8));
+    REFUSES_RUNS(RUNS(S("\x07\x20\0\0\0\x10\x02\0\x02\0"), little(5, 4), 0, 0, 0), CUT_SHORT);
+    REFUSES_RUNS(RUNS(S("\x03" INDEX_2_61 "\x08\0"), little(5, 8), 0, 0, 0), TOO_FAR);
+    REFUSES_RUNS(RUNS(S("\x04" NINE "\x02"), little(5, 4), 0, 0, 0), REFUSED(YZ_BAD_UNSIGNED_LEB128, 0));
+    REFUSES_RUNS(RUNS(TOUCHING, little(5, 4), MAX, 0, 0), CUT_SHORT);
+    REFUSES_RUNS(RUNS(TOUCHING, little(5, 5), MAX, 0, 0), BAD_SIZE(5));
+    REFUSES_RUNS(RUNS(NO_BYTES, little(5, 4), 1, 0, 0), CUT_SHORT);
+}
+
 #define LCOVER(list, encoding, file_type, offset)                                                                    \
     yz_location_coverage(list, TABLE, 8, encoding, file_type, offset, 0, &begins, &ends)
 
-#define DEFAULTS(n) defaults, 2 * (n)
+/* n default locations, and a byte behind them. */
+static const uint8_t *make_defaults(size_t n, uint8_t behind) {
+    static uint8_t defaults[2 * (YZ_LIMIT + 1) + 1];
+    size_t i;
+    for (i = 0; i < n; i++) {
+        defaults[2 * i] = 5;
+        defaults[2 * i + 1] = 0;
+    }
+    defaults[2 * n] = behind;
+    return defaults;
+}
+
+#define DEFAULTS(n, behind) make_defaults(n, behind), 2 * (n) + 1
 
 static void test_location_coverage(void) {
-    uint8_t defaults[2 * (YZ_LIMIT + 1)];
-    size_t i;
-    for (i = 0; i < sizeof defaults; i += 2) {
-        defaults[i] = 5;
-        defaults[i + 1] = 0;
-    }
     COVERS(LCOVER(S("\x04\x01\x02\x01\x50\x04\x02\x04\x01\x51\x04\x06\x07\0\0"), little(5, 4), MAIN, 0), 2);
     CHECK(range_is(0, 1, 4) && range_is(1, 6, 7));
     COVERS(LCOVER(S("\x03\0\x08\0\0\0\x01\0\x50\0"), little(4, 4), DWO, 0), 1);
     CHECK(range_is(0, 0x10, 0x18));
-    COVERS(LCOVER(DEFAULTS(YZ_LIMIT), little(5, 4), MAIN, 0), 1);
+    COVERS(LCOVER(DEFAULTS(3000, 0), little(5, 4), MAIN, 0), 1);
     CHECK(range_is(0, 0, MAX));
     COVERS(LCOVER(NO_BYTES, little(4, 4), MAIN, 0), 0);
     COVERS(yz_location_coverage(S("\x09\x04\x01\x02\0\0"), NO_BYTES, 0, little(5, 4), MAIN, 1, 0x100, &begins, &ends), 1);
@@ -1241,36 +1360,104 @@ static void test_location_coverage(void) {
     CHECK(range_is(0, 0x10, 0x18));
     REFUSES_COVERAGE(LCOVER(S("\x07\x10\0"), little(5, 3), MAIN, 0), CUT_SHORT);
     REFUSES_COVERAGE(LCOVER(NO_BYTES, little(4, 3), DWO, 1), CUT_SHORT);
-    REFUSES_COVERAGE(LCOVER(DEFAULTS(YZ_LIMIT + 1), little(5, 4), MAIN, 0), REFUSED(YZ_TOO_MANY_RANGES, 0));
+    REFUSES_COVERAGE(LCOVER(DEFAULTS(3001, 0), little(5, 4), MAIN, 0), TOO_MANY);
+    REFUSES_COVERAGE(LCOVER(DEFAULTS(3000, 9), little(5, 4), MAIN, 0), REFUSED(YZ_UNKNOWN_LOC_LISTS_ENTRY, 9));
+    REFUSES_COVERAGE(LCOVER(DEFAULTS(3001, 9), little(5, 4), MAIN, 0), TOO_MANY);
     REFUSES_COVERAGE(LCOVER(S("\x04\x01\x02\0\x09"), little(5, 4), MAIN, 0), REFUSED(YZ_UNKNOWN_LOC_LISTS_ENTRY, 9));
     REFUSES_COVERAGE(LCOVER(S("\x03\x02\x08\0\0\0\0\0"), little(4, 4), DWO, 0), CUT_SHORT);
     REFUSES_COVERAGE(LCOVER(S("\0"), little(5, 4), MAIN, MAX), CUT_SHORT);
     REFUSES_COVERAGE(LCOVER(S("\0"), little(5, 0), DWO, MAX), BAD_SIZE(0));
 }
 
-#define FROM_CANONICAL(bytes) yz_coverage_from_canonical(bytes, &begins, &ends)
+#define LRUNS(list, encoding, file_type, offset, b, e)                                                               \
+    yz_location_runs(list, TABLE, 8, encoding, file_type, offset, 0, INTO(b, e))
 
-static void test_coverage_from_canonical(void) {
-    uint8_t many[10 * (YZ_LIMIT + 1)];
-    size_t i;
-    for (i = 0; i < sizeof many; i += 10)
-        memcpy(many + i, TOUCHING_CANONICAL, 10);
-    COVERS(FROM_CANONICAL(S(TOUCHING_CANONICAL)), 1);
-    CHECK(range_is(0, 0x10, 0x30));
-    COVERS(FROM_CANONICAL(S("\0")), 0);
-    COVERS(FROM_CANONICAL(NO_BYTES), 0);
-    REFUSES_COVERAGE(FROM_CANONICAL(S("\x07\x10\0\0\0\0\0\0\0")), CUT_SHORT);
-    REFUSES_COVERAGE(FROM_CANONICAL(S("\x03\0\x08\0")), CUT_SHORT);
-    REFUSES_COVERAGE(FROM_CANONICAL(S("\x03" INDEX_2_61 "\0")), TOO_FAR);
-    REFUSES_COVERAGE(FROM_CANONICAL(S("\x04" NINE "\x02")), REFUSED(YZ_BAD_UNSIGNED_LEB128, 0));
-    REFUSES_COVERAGE(FROM_CANONICAL(S("\x08")), REFUSED(YZ_UNKNOWN_RANGE_LISTS_ENTRY, 8));
-    REFUSES_COVERAGE(yz_coverage_from_canonical(many, sizeof many, &begins, &ends), REFUSED(YZ_TOO_MANY_RANGES, 0));
+static void test_location_runs(void) {
+    size_t b, e;
+#define LIST S("\x04\x01\x02\x01\x50\x04\x02\x04\x01\x51\x04\x06\x07\0\0")
+    for (b = 0; b < 5; b++)
+        for (e = 0; e < 5; e++) {
+            if (b < 2 || e < 2) {
+                REFUSES_RUNS(LRUNS(LIST, little(5, 4), MAIN, 0, b, e), NO_ROOM);
+                continue;
+            }
+            PUTS(LRUNS(LIST, little(5, 4), MAIN, 0, b, e), 2);
+            CHECK(run_is(0, 1, 4) && run_is(1, 6, 7));
+        }
+#undef LIST
+    /* A list of a .dwo file, which is none of the main file. */
+#define LIST S("\x03\0\x08\0\0\0\x01\0\x50\0")
+    PUTS(LRUNS(LIST, little(4, 4), DWO, 0, 1, 1), 1);
+    CHECK(run_is(0, 0x10, 0x18));
+    PUTS(LRUNS(LIST, little(4, 4), DWO, 0, 2, 3), 1);
+    PUTS(yz_location_runs(LIST, TABLE_3, 8, little(4, 3), DWO, 0, 0, INTO(1, 1)), 1);
+    CHECK(run_is(0, 0x10, 0x18));
+    REFUSES_RUNS(LRUNS(LIST, little(4, 4), DWO, 0, 0, 0), NO_ROOM);
+    REFUSES_RUNS(LRUNS(LIST, little(4, 4), DWO, 0, 1, 0), NO_ROOM);
+    REFUSES_RUNS(LRUNS(LIST, little(4, 4), DWO, 0, 0, 1), NO_ROOM);
+    REFUSES_RUNS(LRUNS(LIST, little(4, 4), MAIN, 0, 1, 1), CUT_SHORT);
+    REFUSES_RUNS(LRUNS(LIST, little(4, 7), DWO, MAX, 0, 0), BAD_SIZE(7));
+#undef LIST
+    PUTS(LRUNS(NO_BYTES, little(4, 4), MAIN, 0, 0, 0), 0);
+    PUTS(yz_location_runs(S("\0"), NO_BYTES, 0, little(5, 4), DWO, 0, 0, NO_BYTES, NO_BYTES), 0);
+    PUTS(yz_location_runs(S("\x09\x04\x01\x02\0\0"), NO_BYTES, 0, little(5, 4), MAIN, 1, 0x100, INTO(1, 1)), 1);
+    CHECK(run_is(0, 0x101, 0x102));
+    PUTS(LRUNS(S("\x01\x02\x03\x04\x05\x06\0\x01\x50\0\0\0\0\0\0"), big(4, 3), MAIN, 0, 1, 1), 1);
+    CHECK(run_is(0, 0x010203, 0x040506));
+    PUTS(LRUNS(DEFAULTS(3000, 0), little(5, 4), MAIN, 0, 1, 1), 1);
+    CHECK(run_is(0, 0, MAX));
+    REFUSES_RUNS(LRUNS(DEFAULTS(3000, 0), little(5, 4), MAIN, 0, 0, 0), NO_ROOM);
+    REFUSES_RUNS(LRUNS(DEFAULTS(3001, 0), little(5, 4), MAIN, 0, 1, 1), TOO_MANY);
+    REFUSES_RUNS(LRUNS(DEFAULTS(3001, 0), little(5, 4), MAIN, 0, 0, 0), TOO_MANY);
+    REFUSES_RUNS(LRUNS(DEFAULTS(3000, 9), little(5, 4), MAIN, 0, 0, 0), REFUSED(YZ_UNKNOWN_LOC_LISTS_ENTRY, 9));
+    REFUSES_RUNS(LRUNS(DEFAULTS(3001, 9), little(5, 4), MAIN, 0, 0, 0), TOO_MANY);
+    REFUSES_RUNS(LRUNS(S("\x04\x01\x02\0\x09"), little(5, 4), MAIN, 0, 0, 0), REFUSED(YZ_UNKNOWN_LOC_LISTS_ENTRY, 9));
+    REFUSES_RUNS(LRUNS(S("\x03\x02\x08\0\0\0\0\0"), little(4, 4), DWO, 0, 0, 0), CUT_SHORT);
+    REFUSES_RUNS(LRUNS(S("\0"), little(5, 4), MAIN, MAX, 0, 0), CUT_SHORT);
+    REFUSES_RUNS(LRUNS(NO_BYTES, little(4, 3), DWO, 1, 0, 0), CUT_SHORT);
 }
+
+#define FROM_CANONICAL(bytes) yz_coverage_from_canonical(bytes, &begins, &ends)
 
 static void put_u64(uint8_t *at, uint64_t x) {
     size_t i;
     for (i = 0; i < 8; i++, x >>= 8)
         at[i] = (uint8_t)x;
+}
+
+/* The canonical list of n ranges of one address, each begin two above the one before, but for the last byte. */
+static uint8_t listed[10 * (YZ_LIMIT + 1) + 1];
+
+static const uint8_t *make_listed(size_t n, uint8_t behind) {
+    size_t i;
+    for (i = 0; i < n; i++) {
+        listed[10 * i] = 7;
+        put_u64(listed + 10 * i + 1, 2 * i);
+        listed[10 * i + 9] = 1;
+    }
+    listed[10 * n] = behind;
+    return listed;
+}
+
+#define LISTED(n, behind) make_listed(n, behind), 10 * (n) + 1
+
+static void test_coverage_from_canonical(void) {
+    COVERS(FROM_CANONICAL(S(TOUCHING_CANONICAL)), 1);
+    CHECK(range_is(0, 0x10, 0x30));
+    COVERS(FROM_CANONICAL(S("\0")), 0);
+    COVERS(FROM_CANONICAL(NO_BYTES), 0);
+    COVERS(FROM_CANONICAL(LISTED(1025, 0)), 1025);
+    CHECK(range_is(0, 0, 1) && range_is(1024, 2048, 2049));
+    COVERS(FROM_CANONICAL(LISTED(3000, 0)), 3000);
+    CHECK(range_is(0, 0, 1) && range_is(2999, 5998, 5999));
+    REFUSES_COVERAGE(FROM_CANONICAL(S("\x07\x10\0\0\0\0\0\0\0")), CUT_SHORT);
+    REFUSES_COVERAGE(FROM_CANONICAL(S("\x03\0\x08\0")), CUT_SHORT);
+    REFUSES_COVERAGE(FROM_CANONICAL(S("\x03" INDEX_2_61 "\0")), TOO_FAR);
+    REFUSES_COVERAGE(FROM_CANONICAL(S("\x04" NINE "\x02")), REFUSED(YZ_BAD_UNSIGNED_LEB128, 0));
+    REFUSES_COVERAGE(FROM_CANONICAL(S("\x08")), REFUSED(YZ_UNKNOWN_RANGE_LISTS_ENTRY, 8));
+    REFUSES_COVERAGE(FROM_CANONICAL(LISTED(3001, 0)), TOO_MANY);
+    REFUSES_COVERAGE(FROM_CANONICAL(LISTED(3000, 8)), REFUSED(YZ_UNKNOWN_RANGE_LISTS_ENTRY, 8));
+    REFUSES_COVERAGE(FROM_CANONICAL(LISTED(3001, 8)), TOO_MANY);
 }
 
 /* A sheet of one range by its fields. */
@@ -1310,12 +1497,24 @@ static void test_coverage_from_sheet(void) {
     COVERS(FROM_SHEET(S("\0\0\x08\0")), 0);
     COVERS(FROM_SHEET(one(8, MAX - 2, MAX), 20), 1);
     CHECK(range_is(0, MAX - 2, MAX));
-    len = make_big_sheet(YZ_LIMIT);
-    COVERS(FROM_SHEET(big_sheet, len), YZ_LIMIT);
-    CHECK(range_is(0, 0, 1) && range_is(YZ_LIMIT - 1, 2 * YZ_LIMIT - 2, 2 * YZ_LIMIT - 1));
+    /* A sheet as full as it could be before, and one range more. */
+    len = make_big_sheet(1024);
+    CHECK(len == 16388 && memcmp(big_sheet, "\0\x04\x08", 4) == 0);
+    COVERS(FROM_SHEET(big_sheet, len), 1024);
+    CHECK(range_is(0, 0, 1) && range_is(1023, 2046, 2047));
+    len = make_big_sheet(1025);
+    CHECK(len == 16404 && memcmp(big_sheet, "\x01\x04\x08", 4) == 0);
+    COVERS(FROM_SHEET(big_sheet, len), 1025);
+    CHECK(range_is(0, 0, 1) && range_is(1024, 2048, 2049));
+    len = make_big_sheet(3000);
+    CHECK(len == 48004 && memcmp(big_sheet, "\xb8\x0b\x08", 4) == 0);
+    COVERS(FROM_SHEET(big_sheet, len), 3000);
+    CHECK(range_is(0, 0, 1) && range_is(2999, 5998, 5999));
+    BAD_SHEET(big_sheet, len - 1);
     put_u64(big_sheet + 4 + 8, 1);
     BAD_SHEET(big_sheet, len);
-    len = make_big_sheet(YZ_LIMIT + 1);
+    len = make_big_sheet(3001);
+    CHECK(len == 48020 && memcmp(big_sheet, "\xb9\x0b\x08", 4) == 0);
     BAD_SHEET(big_sheet, len);
     BAD_SHEET(NO_BYTES);
     BAD_SHEET(S("\x01\0\x08\0"));
@@ -1360,7 +1559,6 @@ static void two_ranges(uint64_t a, uint64_t b, uint64_t c, uint64_t d) {
 typedef yz_count writer(uint64_t, const yz_bounds *, const yz_bounds *, uint8_t *, size_t);
 
 #define WRITE(n, len) write(n, &begins, &ends, output, len)
-#define NO_ROOM REFUSED(YZ_NO_SPACE, 0)
 #define UNLAWFUL(n, len) REFUSES_OUTPUT(WRITE(n, len), REFUSED(YZ_BAD_SHEET, 0))
 
 static void refuses_unlawful(writer *write) {
@@ -1381,9 +1579,31 @@ static void refuses_unlawful(writer *write) {
     UNLAWFUL(MAX, sizeof output);
 }
 
+/* As many ranges as may be, of one address each, two apart. */
+static void many_ranges(void) {
+    size_t i;
+    for (i = 0; i < YZ_LIMIT; i++) {
+        begins.at[i] = 2 * i;
+        ends.at[i] = 2 * i + 1;
+    }
+}
+
+/* A count above the limit, though what stands behind the arrays would make another range. */
+static void refuses_one_more(writer *write) {
+    static struct { yz_bounds bounds; uint64_t behind; } more_begins, more_ends;
+    many_ranges();
+    more_begins.bounds = begins;
+    more_ends.bounds = ends;
+    more_begins.behind = 6000;
+    more_ends.behind = 6001;
+    REFUSES_OUTPUT(write(3001, &more_begins.bounds, &more_ends.bounds, output, sizeof output), REFUSED(YZ_BAD_SHEET, 0));
+    REFUSES_OUTPUT(write(3001, &more_begins.bounds, &more_ends.bounds, NO_BYTES), REFUSED(YZ_BAD_SHEET, 0));
+}
+
 static void test_sheet(void) {
     writer *write = yz_sheet;
-    size_t len = make_big_sheet(YZ_LIMIT), i;
+    const size_t counts[] = {1024, 1025, 3000};
+    size_t i;
     two_ranges(0x10, 0x30, 0x40, 0x50);
     WRITES(WRITE(1, 20), TOUCHING_SHEET, 20);
     WRITES(WRITE(1, 64), TOUCHING_SHEET, 20);
@@ -1391,11 +1611,16 @@ static void test_sheet(void) {
     REFUSES_OUTPUT(WRITE(1, 19), NO_ROOM);
     REFUSES_OUTPUT(write(0, &begins, &ends, NO_BYTES), NO_ROOM);
     refuses_unlawful(write);
-    for (i = 0; i < YZ_LIMIT; i++) {
-        begins.at[i] = 2 * i;
-        ends.at[i] = 2 * i + 1;
+    for (i = 0; i < sizeof counts / sizeof *counts; i++) {
+        const size_t len = make_big_sheet(counts[i]);
+        many_ranges();
+        WRITES(WRITE(counts[i], len), big_sheet, len);
+        REFUSES_OUTPUT(WRITE(counts[i], len - 1), NO_ROOM);
+        /* What was read from a sheet makes the same sheet. */
+        IS(count, FROM_SHEET(big_sheet, len), DONE, counts[i]);
+        WRITES(WRITE(counts[i], YZ_SHEET_MAX), big_sheet, len);
     }
-    WRITES(WRITE(YZ_LIMIT, YZ_SHEET_MAX), big_sheet, len);
+    refuses_one_more(write);
 }
 
 static void test_canonical(void) {
@@ -1411,6 +1636,12 @@ static void test_canonical(void) {
     two_ranges(0, MAX, 0, 0);
     WRITES(WRITE(1, 20), "\x07\0\0\0\0\0\0\0\0\xff\xff\xff\xff\xff\xff\xff\xff\xff\x01", 20);
     refuses_unlawful(write);
+    many_ranges();
+    make_listed(3000, 0);
+    WRITES(WRITE(3000, 30001), listed, 30001);
+    WRITES(WRITE(3000, YZ_CANONICAL_MAX), listed, 30001);
+    REFUSES_OUTPUT(WRITE(3000, 30000), NO_ROOM);
+    refuses_one_more(write);
 }
 
 #define CANONICAL(list, encoding, offset, len) yz_range_canonical(list, TABLE, 8, encoding, offset, 0, output, len)
@@ -1439,7 +1670,14 @@ static void test_range_canonical(void) {
     REFUSES_OUTPUT(CANONICAL(S("\x07\x20\0\0\0\x10\x02\0\x02\0"), little(5, 4), 0, 64), CUT_SHORT);
     REFUSES_OUTPUT(CANONICAL(TOUCHING, little(5, 4), MAX, 64), CUT_SHORT);
     REFUSES_OUTPUT(CANONICAL(TOUCHING, little(5, 7), MAX, 64), BAD_SIZE(7));
-    REFUSES_OUTPUT(CANONICAL(APART(YZ_LIMIT + 1), little(5, 4), 0, 64), REFUSED(YZ_TOO_MANY_RANGES, 0));
+    REFUSES_OUTPUT(CANONICAL(APART(3001), little(5, 4), 0, 64), TOO_MANY);
+    REFUSES_OUTPUT(CANONICAL(SAME(3001, 0), little(5, 4), 0, 0), TOO_MANY);
+    REFUSES_OUTPUT(CANONICAL(SAME(3000, 8), little(5, 4), 0, 0), REFUSED(YZ_UNKNOWN_RANGE_LISTS_ENTRY, 8));
+    REFUSES_OUTPUT(CANONICAL(SAME(3001, 8), little(5, 4), 0, 0), TOO_MANY);
+    WRITES(CANONICAL(SAME(3000, 0), little(5, 4), 0, 11), "\x07\x10\0\0\0\0\0\0\0\x01", 11);
+    make_listed(3000, 0);
+    WRITES(CANONICAL(APART(3000), little(5, 4), 0, 30001), listed, 30001);
+    REFUSES_OUTPUT(CANONICAL(APART(3000), little(5, 4), 0, 30000), NO_ROOM);
 }
 
 #define LCANONICAL(list, encoding, file_type, offset, len)                                                           \
@@ -1463,6 +1701,10 @@ static void test_location_canonical(void) {
     REFUSES_OUTPUT(LCANONICAL(S("\x04\x10\x30\0\0"), little(5, 4), MAIN, MAX, 64), CUT_SHORT);
     REFUSES_OUTPUT(LCANONICAL(LIST, little(4, 7), DWO, MAX, 64), BAD_SIZE(7));
 #undef LIST
+    WRITES(LCANONICAL(DEFAULTS(3000, 0), little(5, 4), MAIN, 0, 20),
+           "\x07\0\0\0\0\0\0\0\0\xff\xff\xff\xff\xff\xff\xff\xff\xff\x01", 20);
+    REFUSES_OUTPUT(LCANONICAL(DEFAULTS(3001, 0), little(5, 4), MAIN, 0, 0), TOO_MANY);
+    REFUSES_OUTPUT(LCANONICAL(DEFAULTS(3000, 9), little(5, 4), MAIN, 0, 0), REFUSED(YZ_UNKNOWN_LOC_LISTS_ENTRY, 9));
 }
 
 static void test_is_canonical(void) {
@@ -1470,6 +1712,8 @@ static void test_is_canonical(void) {
     CHECK(yz_is_canonical(S("\0")));
     CHECK(yz_is_canonical(S("\x07\0\0\0\0\0\0\0\0\x7f\x07\x80\0\0\0\0\0\0\0\x80\x01\0")));
     CHECK(yz_is_canonical(S("\x07\0\0\0\0\0\0\0\0\xff\xff\xff\xff\xff\xff\xff\xff\xff\x01\0")));
+    CHECK(yz_is_canonical(LISTED(3000, 0)));
+    CHECK(!yz_is_canonical(LISTED(3001, 0)));
     CHECK(!yz_is_canonical(NO_BYTES));
     CHECK(!yz_is_canonical(S("\x07\x10\0\0\0\0\0\0\0\x20")));
     CHECK(!yz_is_canonical(S(TOUCHING_CANONICAL "\0")));
@@ -1520,7 +1764,9 @@ static const struct { const char *name; void (*run)(void); } tests[] = {
     {"yz_expression", test_expression},
     {"yz_location_lookup", test_location_lookup},
     {"yz_range_coverage", test_range_coverage},
+    {"yz_range_runs", test_range_runs},
     {"yz_location_coverage", test_location_coverage},
+    {"yz_location_runs", test_location_runs},
     {"yz_coverage_from_canonical", test_coverage_from_canonical},
     {"yz_coverage_from_sheet", test_coverage_from_sheet},
     {"yz_sheet", test_sheet},

@@ -68,7 +68,9 @@ const TESTS: &[Test] = &[
     ("yz_expression", expression),
     ("yz_location_lookup", location_lookup),
     ("yz_range_coverage", range_coverage),
+    ("yz_range_runs", range_runs),
     ("yz_location_coverage", location_coverage),
+    ("yz_location_runs", location_runs),
     ("yz_coverage_from_canonical", coverage_from_canonical),
     ("yz_coverage_from_sheet", coverage_from_sheet),
     ("yz_sheet", sheet),
@@ -149,7 +151,8 @@ fn join(parts: &[&[u8]]) -> Vec<u8> {
 
 fn versions(c: &mut Checks) {
     c.same(version(), VERSION);
-    c.same(VERSION, 3);
+    c.same(VERSION, 4);
+    c.same((LIMIT, SHEET_MAX, CANONICAL_MAX), (3000, 48_004, 57_001));
 }
 
 fn errors(c: &mut Checks) {
@@ -1179,6 +1182,16 @@ fn apart(n: usize) -> Vec<u8> {
     (0..n as u32).flat_map(|i| join(&[&[7], &(0x10 + 2 * i).to_le_bytes(), &[1]])).collect()
 }
 
+/// The scope's list for refusal 10: the same entry n times, and a byte.
+fn same(n: usize, behind: u8) -> Vec<u8> {
+    join(&[&[7, 0x10, 0, 0, 0, 1].repeat(n), &[behind]])
+}
+
+/// n default locations, and a byte.
+fn defaults(n: usize, behind: u8) -> Vec<u8> {
+    join(&[&[5, 0].repeat(n), &[behind]])
+}
+
 /// The scope's two ranges that touch: 0x20 to 0x30 and 0x10 to 0x20.
 const TOUCHING: &[u8] = &[7, 0x20, 0, 0, 0, 0x10, 7, 0x10, 0, 0, 0, 0x10, 0];
 /// The same with addresses of three bytes.
@@ -1203,14 +1216,16 @@ fn range_coverage(c: &mut Checks) {
     c.same(cover(&[6, 1, 9, 6, 2, 3, 6, 8, 10, 0], 1, 0), Ok(vec![at(1, 10)]));
     c.same(cover(&[], 4, 0), Ok(vec![]));
     c.same(cover(&[0], 4, 0), Ok(vec![]));
-    let full = cover(&apart(LIMIT), 4, 0).map(|all| (all.len(), all[0], all[LIMIT - 1]));
-    let end = 0x10 + 2 * LIMIT as u64;
-    c.same(full, Ok((LIMIT, at(0x10, 0x11), at(end - 2, end - 1))));
-    let same = [7, 0x10, 0, 0, 0, 1].repeat(LIMIT);
-    c.same(cover(&same, 4, 0), Ok(vec![at(0x10, 0x11)]));
-    c.same(cover(&[7, 0x10, 0, 0, 0, 1].repeat(LIMIT + 1), 4, 0), Err(Error::TooManyRanges));
-    c.same(cover(&join(&[&apart(LIMIT + 1), &[8]]), 4, 0), Err(Error::TooManyRanges));
-    c.same(cover(&join(&[&apart(LIMIT), &[8]]), 4, 0), Err(Error::UnknownRangeListsEntry(8)));
+    let ends = |n| cover(&apart(n), 4, 0).map(|all| (all.len(), all[0], all[n - 1]));
+    c.same(ends(1024), Ok((1024, at(0x10, 0x11), at(2062, 2063))));
+    c.same(ends(1025), Ok((1025, at(0x10, 0x11), at(2064, 2065))));
+    c.same(ends(3000), Ok((3000, at(0x10, 0x11), at(6014, 6015))));
+    c.same(cover(&same(3000, 0), 4, 0), Ok(vec![at(0x10, 0x11)]));
+    c.same(cover(&same(3001, 0), 4, 0), Err(Error::TooManyRanges));
+    c.same(cover(&apart(3001), 4, 0), Err(Error::TooManyRanges));
+    // The first of the two.
+    c.same(cover(&same(3000, 8), 4, 0), Err(Error::UnknownRangeListsEntry(8)));
+    c.same(cover(&same(3001, 8), 4, 0), Err(Error::TooManyRanges));
     c.same(cover(&[2, 0, 2, 0], 4, 0), Err(EOF));
     c.same(cover(TOUCHING, 4, u64::MAX), Err(EOF));
     c.same(cover(TOUCHING, 5, u64::MAX), Err(Error::UnsupportedAddressSize(5)));
@@ -1222,6 +1237,89 @@ fn range_coverage(c: &mut Checks) {
     c.same(cover(&[7, 0xf0, 0xff, 0xff, 0x10, 0], 3, 0), Ok(vec![]));
     c.same(cover(&[6, 0x10, 0], 3, 0), Err(EOF));
     c.same(cover(&[], 3, 1), Err(EOF));
+}
+
+/// What places hold before a call.
+const OLD: u64 = 0xeeee_eeee_eeee_eeee;
+
+/// What a call answers that puts ranges into slices of two lengths, and all of the slices after it.
+type Put = (Result<usize>, Vec<u64>, Vec<u64>);
+
+fn put(b: usize, e: usize, call: impl FnOnce(&mut [u64], &mut [u64]) -> Result<usize>) -> Put {
+    let (mut begins, mut ends) = (vec![OLD; b], vec![OLD; e]);
+    let count = call(&mut begins, &mut ends);
+    (count, begins, ends)
+}
+
+/// These ranges at the front, the other places as they were.
+fn holding(b: usize, e: usize, ranges: &[(u64, u64)]) -> Put {
+    put(b, e, |begins, ends| {
+        for (i, &(begin, end)) in ranges.iter().enumerate() {
+            (begins[i], ends[i]) = (begin, end);
+        }
+        Ok(ranges.len())
+    })
+}
+
+/// Nothing is written.
+fn left(b: usize, e: usize, refused: Error) -> Put {
+    put(b, e, |_, _| Err(refused))
+}
+
+fn range_runs(c: &mut Checks) {
+    let runs = |bytes: &[u8], size, offset, b, e| {
+        let (lists, table) = (range_lists(bytes, Little), table_of(size));
+        let (offset, encoding, base) =
+            (RangeListsOffset(offset), encoding(5, size), DebugAddrBase(8));
+        put(b, e, |begins, ends| lists.runs(offset, encoding, 0, &table, base, begins, ends))
+    };
+    c.same(runs(TOUCHING, 4, 0, 1, 1), holding(1, 1, &[(0x10, 0x30)]));
+    c.same(runs(TOUCHING, 4, 0, 2, 2), holding(2, 2, &[(0x10, 0x30)]));
+    c.same(runs(TOUCHING, 4, 0, 0, 0), left(0, 0, Error::NoSpace));
+    c.same(runs(TOUCHING_3, 3, 0, 1, 1), holding(1, 1, &[(0x10, 0x30)]));
+    c.same(runs(TOUCHING, 4, 6, 1, 3), holding(1, 3, &[(0x10, 0x20)]));
+    // Two ranges into slices of every two lengths.
+    for (b, e) in (0..5).flat_map(|b| (0..5).map(move |e| (b, e))) {
+        let two = runs(&[3, 1, 8, 3, 0, 4, 0], 4, 0, b, e);
+        if b < 2 || e < 2 {
+            c.same(two, left(b, e, Error::NoSpace));
+        } else {
+            c.same(two, holding(b, e, &[(0x10, 0x14), (0x20, 0x28)]));
+        }
+    }
+    // No range needs no place.
+    for bytes in [&[][..], &[0]] {
+        c.same(runs(bytes, 4, 0, 0, 0), holding(0, 0, &[]));
+        c.same(runs(bytes, 4, 0, 3, 2), holding(3, 2, &[]));
+    }
+    // As many as short arrays have room for, one more, as many as the limit before, one more, and as
+    // many as may be.
+    for n in [32, 33, 1024, 1025, 3000] {
+        let (list, apart) = (apart(n), |i| (0x10 + 2 * i, 0x11 + 2 * i));
+        let all: Vec<(u64, u64)> = (0..n as u64).map(apart).collect();
+        c.same(runs(&list, 4, 0, n, n), holding(n, n, &all));
+        c.same(runs(&list, 4, 0, n + 1, n + 2), holding(n + 1, n + 2, &all));
+        c.same(runs(&list, 4, 0, n - 1, n), left(n - 1, n, Error::NoSpace));
+        c.same(runs(&list, 4, 0, n, n - 1), left(n, n - 1, Error::NoSpace));
+    }
+    c.same(runs(&same(3000, 0), 4, 0, 2, 2), holding(2, 2, &[(0x10, 0x11)]));
+    // The first refusal of opening and walk or 10, and then 11.
+    c.same(runs(&apart(3001), 4, 0, 3001, 3001), left(3001, 3001, Error::TooManyRanges));
+    for n in [0, 1] {
+        let refused = |bytes: &[u8], size, offset| runs(bytes, size, offset, n, n);
+        let unknown = Error::UnknownRangeListsEntry(8);
+        c.same(refused(&same(3001, 0), 4, 0), left(n, n, Error::TooManyRanges));
+        c.same(refused(&same(3001, 8), 4, 0), left(n, n, Error::TooManyRanges));
+        c.same(refused(&same(3000, 8), 4, 0), left(n, n, unknown));
+        c.same(refused(&join(&[&TOUCHING[..12], &[8]]), 4, 0), left(n, n, unknown));
+        c.same(refused(&[7, 0x20, 0, 0, 0, 0x10, 2, 0, 2, 0], 4, 0), left(n, n, EOF));
+        c.same(
+            refused(&join(&[&[3], &INDEX_2_61, &[8, 0]]), 8, 0),
+            left(n, n, Error::UnsupportedOffset),
+        );
+        c.same(refused(TOUCHING, 4, u64::MAX), left(n, n, EOF));
+        c.same(refused(TOUCHING, 5, u64::MAX), left(n, n, Error::UnsupportedAddressSize(5)));
+    }
 }
 
 fn location_coverage(c: &mut Checks) {
@@ -1248,8 +1346,10 @@ fn location_coverage(c: &mut Checks) {
     c.same(cover(&[], 4, main), Ok(vec![]));
     c.same(cover(&[9], 5, main), Err(Error::UnknownLocListsEntry(9)));
     c.same(cover(&[3, 2, 8, 0, 0, 0, 0, 0], 4, dwo), Err(EOF));
-    c.same(cover(&[5, 0].repeat(LIMIT + 1), 5, main), Err(Error::TooManyRanges));
-    c.same(cover(&[5, 0].repeat(LIMIT), 5, main), Ok(vec![at(0, u64::MAX)]));
+    c.same(cover(&defaults(3000, 0), 5, main), Ok(vec![at(0, u64::MAX)]));
+    c.same(cover(&defaults(3001, 0), 5, main), Err(Error::TooManyRanges));
+    c.same(cover(&defaults(3000, 9), 5, main), Err(Error::UnknownLocListsEntry(9)));
+    c.same(cover(&defaults(3001, 9), 5, main), Err(Error::TooManyRanges));
     let (lists, none) = (location_lists(&[9, 4, 1, 2, 0, 0], Little), DebugAddr::default());
     let (offset, five, base) = (LocationListsOffset(1), encoding(5, 4), DebugAddrBase(0));
     let coverage = lists.coverage(offset, five, main, 0x100, &none, base);
@@ -1268,6 +1368,56 @@ fn location_coverage(c: &mut Checks) {
     c.same(of_three(&[7, 0x10, 0], 5, main), Err(EOF));
 }
 
+fn location_runs(c: &mut Checks) {
+    let runs = |bytes: &[u8], version, size, file, b, e| {
+        let (lists, table) = (location_lists(bytes, Little), table_of(size));
+        let (offset, encoding, base) =
+            (LocationListsOffset(0), encoding(version, size), DebugAddrBase(8));
+        put(b, e, |begins, ends| lists.runs(offset, encoding, file, 0, &table, base, begins, ends))
+    };
+    let (main, dwo) = (DwarfFileType::Main, DwarfFileType::Dwo);
+    for (b, e) in (0..5).flat_map(|b| (0..5).map(move |e| (b, e))) {
+        let bytes = [4, 1, 2, 1, 0x50, 4, 2, 4, 1, 0x51, 4, 6, 7, 0, 0];
+        let two = runs(&bytes, 5, 4, main, b, e);
+        if b < 2 || e < 2 {
+            c.same(two, left(b, e, Error::NoSpace));
+        } else {
+            c.same(two, holding(b, e, &[(1, 4), (6, 7)]));
+        }
+    }
+    // A list of a .dwo file, which is none of the main file.
+    let gnu = [3, 0, 8, 0, 0, 0, 1, 0, 0x50, 0];
+    for size in [3, 4] {
+        c.same(runs(&gnu, 4, size, dwo, 1, 1), holding(1, 1, &[(0x10, 0x18)]));
+        c.same(runs(&gnu, 4, size, dwo, 2, 3), holding(2, 3, &[(0x10, 0x18)]));
+        c.same(runs(&gnu, 4, size, dwo, 1, 0), left(1, 0, Error::NoSpace));
+        c.same(runs(&gnu, 4, size, dwo, 0, 1), left(0, 1, Error::NoSpace));
+    }
+    c.same(runs(&gnu, 4, 4, main, 1, 1), left(1, 1, EOF));
+    c.same(runs(&[], 4, 4, main, 0, 0), holding(0, 0, &[]));
+    c.same(runs(&[0], 5, 4, dwo, 0, 2), holding(0, 2, &[]));
+    let all = [(0, u64::MAX)];
+    c.same(runs(&defaults(3000, 0), 5, 4, main, 2, 2), holding(2, 2, &all));
+    for n in [0, 1] {
+        let refused = |bytes: &[u8], version, size, file| runs(bytes, version, size, file, n, n);
+        let unknown = Error::UnknownLocListsEntry(9);
+        c.same(refused(&defaults(3001, 0), 5, 4, main), left(n, n, Error::TooManyRanges));
+        c.same(refused(&defaults(3001, 9), 5, 4, main), left(n, n, Error::TooManyRanges));
+        c.same(refused(&defaults(3000, 9), 5, 4, main), left(n, n, unknown));
+        c.same(refused(&[4, 1, 2, 0, 9], 5, 4, main), left(n, n, unknown));
+        c.same(refused(&[3, 2, 8, 0, 0, 0, 0, 0], 4, 4, dwo), left(n, n, EOF));
+        c.same(refused(&gnu, 4, 7, dwo), left(n, n, Error::UnsupportedAddressSize(7)));
+    }
+    let (lists, none) = (location_lists(&[9, 4, 1, 2, 0, 0], Little), DebugAddr::default());
+    let (five, base) = (encoding(5, 4), DebugAddrBase(0));
+    let from = |offset, b, e| {
+        let offset = LocationListsOffset(offset);
+        put(b, e, |begins, ends| lists.runs(offset, five, main, 0x100, &none, base, begins, ends))
+    };
+    c.same(from(1, 1, 1), holding(1, 1, &[(0x101, 0x102)]));
+    c.same(from(u64::MAX, 0, 0), left(0, 0, EOF));
+}
+
 fn coverage_from_canonical(c: &mut Checks) {
     let cover = |bytes: &[u8]| is(CanonicalList::new(bytes).coverage());
     c.same(cover(TOUCHING_CANONICAL), Ok(vec![at(0x10, 0x30)]));
@@ -1278,7 +1428,11 @@ fn coverage_from_canonical(c: &mut Checks) {
     c.same(cover(&join(&[&[3], &INDEX_2_61, &[8, 0]])), Err(Error::UnsupportedOffset));
     c.same(cover(&join(&[&[4], &NINE, &[2]])), Err(Error::BadUnsignedLeb128));
     c.same(cover(&[8]), Err(Error::UnknownRangeListsEntry(8)));
-    c.same(cover(&TOUCHING_CANONICAL[..10].repeat(LIMIT + 1)), Err(Error::TooManyRanges));
+    let many = |n, behind| join(&[&TOUCHING_CANONICAL[..10].repeat(n), &[behind]]);
+    c.same(cover(&many(3000, 0)), Ok(vec![at(0x10, 0x30)]));
+    c.same(cover(&many(3001, 0)), Err(Error::TooManyRanges));
+    c.same(cover(&many(3000, 8)), Err(Error::UnknownRangeListsEntry(8)));
+    c.same(cover(&many(3001, 8)), Err(Error::TooManyRanges));
 }
 
 /// A sheet by its fields.
@@ -1306,13 +1460,34 @@ fn coverage_from_sheet(c: &mut Checks) {
     c.same(cover(&sheet_of(1, 8, &[3, 2])), bad());
     c.same(cover(&sheet_of(2, 8, &[0, 2, 2, 4])), bad());
     c.same(cover(&sheet_of(2, 8, &[4, 0, 5, 1])), bad());
-    let apart = |n: u16| {
-        let begins = (0..u64::from(n)).map(|i| 2 * i);
-        let numbers: Vec<u64> = begins.clone().chain(begins.map(|begin| begin + 1)).collect();
-        sheet_of(n, 8, &numbers)
-    };
-    c.same(cover(&apart(LIMIT as u16 + 1)), bad());
-    c.same(cover(&apart(LIMIT as u16)).map(|ranges| ranges.len()), Ok(LIMIT));
+    // A sheet as full as it could be before, one range more, as full as it can be, and one more.
+    for (n, head, len) in [
+        (1024, [0x00, 0x04, 8, 0], 16_388),
+        (1025, [0x01, 0x04, 8, 0], 16_404),
+        (3000, [0xb8, 0x0b, 8, 0], 48_004),
+    ] {
+        let (ranges, sheet) = sheet_apart(n);
+        c.same((&sheet[..4], sheet.len()), (&head[..], len));
+        c.same(cover(&sheet), Ok(ranges));
+        // Written anew, it is the same.
+        let mut output = vec![0; SHEET_MAX];
+        let anew = Sheet::new(&sheet)
+            .coverage()
+            .and_then(|all| all.sheet(&mut output).map(|anew| anew.bytes() == sheet));
+        c.same(anew, Ok(true));
+    }
+    let over = sheet_apart(3001).1;
+    c.same((&over[..4], over.len()), (&[0xb9, 0x0b, 8, 0][..], 48_020));
+    c.same(cover(&over), bad());
+}
+
+/// Ranges of one address, each begin two above the one before, and their sheet.
+fn sheet_apart(n: u16) -> (Vec<Range>, Vec<u8>) {
+    let ranges: Vec<Range> = (0..u64::from(n)).map(|i| at(2 * i, 2 * i + 1)).collect();
+    let begins = ranges.iter().map(|range| range.begin);
+    let numbers: Vec<u64> = begins.chain(ranges.iter().map(|range| range.end)).collect();
+    let sheet = sheet_of(n, 8, &numbers);
+    (ranges, sheet)
 }
 
 /// What a call writes into an output of a length, and all of the output after it.
@@ -1348,11 +1523,18 @@ fn sheet(c: &mut Checks) {
         c.same(write(ranges, 64), untouched(64, Error::BadSheet));
         c.same(write(ranges, 0), untouched(0, Error::BadSheet));
     }
-    let many = vec![at(1, 2); LIMIT + 1];
+    let many = sheet_apart(3001).0;
     c.same(Coverage::from_ranges(&many).map(|_| ()), Err(Error::BadSheet));
-    let full: Vec<(u64, u64)> = (0..LIMIT as u64).map(|i| (2 * i, 2 * i + 1)).collect();
-    c.same(write(&full, SHEET_MAX).0, Ok(SHEET_MAX));
-    c.same((coverage(&full).len(), coverage(&[]).is_empty()), (LIMIT, true));
+    let full: Vec<(u64, u64)> = (0..3000).map(|i| (2 * i, 2 * i + 1)).collect();
+    c.same(write(&full, SHEET_MAX), (Ok(48_004), sheet_apart(3000).1));
+    c.same(write(&full, SHEET_MAX - 1), untouched(SHEET_MAX - 1, Error::NoSpace));
+    c.same((coverage(&full).len(), coverage(&[]).is_empty()), (3000, true));
+}
+
+/// The canonical list of ranges of one address, each begin two above the one before.
+fn canonical_apart(n: u64) -> Vec<u8> {
+    let entry = |i: u64| join(&[&[7], &(2 * i).to_le_bytes(), &[1]]);
+    join(&[&(0..n).flat_map(entry).collect::<Vec<_>>(), &[0]])
 }
 
 fn canonical(c: &mut Checks) {
@@ -1365,6 +1547,9 @@ fn canonical(c: &mut Checks) {
     c.same(write(&[(0, 0x7f), (0x80, 0x100)], 22), (Ok(22), two.to_vec()));
     let all = join(&[&[7, 0, 0, 0, 0, 0, 0, 0, 0], &[0xff; 9], &[1, 0]]);
     c.same(write(&[(0, u64::MAX)], 20), (Ok(20), all));
+    let full: Vec<(u64, u64)> = (0..3000).map(|i| (2 * i, 2 * i + 1)).collect();
+    c.same(write(&full, 30_001), (Ok(30_001), canonical_apart(3000)));
+    c.same(write(&full, 30_000), untouched(30_000, Error::NoSpace));
     c.same(write(&[(0x10, 0x30)], 10), untouched(10, Error::NoSpace));
     c.same(write(&[], 0), untouched(0, Error::NoSpace));
     for ranges in UNLAWFUL {
@@ -1393,10 +1578,14 @@ fn range_canonical(c: &mut Checks) {
         write(&join(&[&TOUCHING[..12], &[8]]), 4, 0, 16),
         untouched(16, Error::UnknownRangeListsEntry(8)),
     );
-    c.same(write(&apart(LIMIT + 1), 4, 0, 16), untouched(16, Error::TooManyRanges));
+    c.same(write(&apart(3001), 4, 0, 16), untouched(16, Error::TooManyRanges));
+    c.same(write(&same(3001, 8), 4, 0, 0), untouched(0, Error::TooManyRanges));
+    c.same(write(&same(3000, 8), 4, 0, 0), untouched(0, Error::UnknownRangeListsEntry(8)));
+    let one = [7, 0x10, 0, 0, 0, 0, 0, 0, 0, 1, 0];
+    c.same(write(&same(3000, 0), 4, 0, 11), (Ok(11), one.to_vec()));
     c.same(write(TOUCHING, 4, u64::MAX, 16), untouched(16, EOF));
     c.same(write(TOUCHING, 0, u64::MAX, 16), untouched(16, Error::UnsupportedAddressSize(0)));
-    let (full, all) = (write(&apart(LIMIT), 4, 0, CANONICAL_MAX), 10 * LIMIT + 1);
+    let (full, all) = (write(&apart(3000), 4, 0, CANONICAL_MAX), 30_001);
     c.same((full.0, full.1[all - 1], full.1[all]), (Ok(all), 0, 0xee));
     for list in [TOUCHING_3, &[3, 0, 0x20, 0]] {
         c.same(write(list, 3, 0, 11), (Ok(11), TOUCHING_CANONICAL.to_vec()));
@@ -1436,7 +1625,8 @@ fn location_canonical(c: &mut Checks) {
     c.same(write(&gnu, 4, main, 0, 16), untouched(16, EOF));
     c.same(write(&[9], 5, main, 0, 0), untouched(0, Error::UnknownLocListsEntry(9)));
     c.same(write(&gnu, 4, dwo, u64::MAX, 16), untouched(16, EOF));
-    c.same(write(&[5, 0].repeat(LIMIT + 1), 5, main, 0, 16), untouched(16, Error::TooManyRanges));
+    c.same(write(&defaults(3001, 0), 5, main, 0, 16), untouched(16, Error::TooManyRanges));
+    c.same(write(&defaults(3000, 9), 5, main, 0, 0), untouched(0, Error::UnknownLocListsEntry(9)));
     let of_three = |bytes: &[u8], version, file| {
         let (lists, table) = (location_lists(bytes, Little), table_of(3));
         let (offset, encoding, base) =
@@ -1458,13 +1648,11 @@ fn is_canonical(c: &mut Checks) {
     let canonical = |bytes: &[u8]| CanonicalList::new(bytes).is_canonical();
     let entry = |begin: u64, length: &[u8]| join(&[&[7], &begin.to_le_bytes(), length]);
     let most = join(&[&[0xff; 9], &[1]]);
-    let apart =
-        |n: u64| join(&[&(0..n).flat_map(|i| entry(2 * i, &[1])).collect::<Vec<_>>(), &[0]]);
     c.same(canonical(TOUCHING_CANONICAL), true);
     c.same(canonical(&[0]), true);
     c.same(canonical(&join(&[&entry(0, &[0x7f]), &entry(0x80, &[0x80, 1]), &[0]])), true);
     c.same(canonical(&join(&[&entry(0, &most), &[0]])), true);
-    c.same(canonical(&apart(LIMIT as u64)), true);
+    c.same(canonical(&canonical_apart(3000)), true);
     for unlike in [
         // Nothing, no end mark, a byte after it, an end mark alone that is cut off.
         vec![],
@@ -1480,7 +1668,7 @@ fn is_canonical(c: &mut Checks) {
         join(&[&entry(0x10, &[0x10]), &entry(0x20, &[0x10]), &[0]]),
         join(&[&entry(0x10, &[0x20]), &entry(0x20, &[0x20]), &[0]]),
         join(&[&entry(0x20, &[1]), &entry(0x10, &[1]), &[0]]),
-        apart(LIMIT as u64 + 1),
+        canonical_apart(3001),
         join(&[&entry(u64::MAX - 1, &[1]), &[0]]),
         // The same range by another kind, and a kind that isn't there.
         join(&[&[6], &0x10u64.to_le_bytes(), &0x30u64.to_le_bytes(), &[0]]),
@@ -1505,11 +1693,16 @@ fn byte_orders(c: &mut Checks) {
         c.same(ranges.ranges(at_0, five, 0, &table, base).map(|_| ()), Err(mixed));
         c.same(ranges.lookup(at_0, five, 0, &table, base, 0), Err(mixed));
         c.same(ranges.coverage(at_0, five, 0, &table, base), Err(mixed));
+        c.same(put(1, 1, |b, e| ranges.runs(at_0, five, 0, &table, base, b, e)), left(1, 1, mixed));
         c.same(ranges.canonical(at_0, five, 0, &table, base, &mut output), Err(mixed));
         c.same(locations.locations(l_at_0, five, 0, &table, base).map(|_| ()), Err(mixed));
         c.same(locations.locations_dwo(l_at_0, five, 0, &table, base).map(|_| ()), Err(mixed));
         c.same(locations.lookup(l_at_0, five, main, 0, &table, base, 0), Err(mixed));
         c.same(locations.coverage(l_at_0, five, main, 0, &table, base), Err(mixed));
+        c.same(
+            put(1, 1, |b, e| locations.runs(l_at_0, five, main, 0, &table, base, b, e)),
+            left(1, 1, mixed),
+        );
         c.same(locations.canonical(l_at_0, five, main, 0, &table, base, &mut output), Err(mixed));
         c.same(output, [0xee; 16]);
         // Before every refusal of the library.

@@ -1,11 +1,11 @@
 /* Range lists, location lists and address tables of DWARF 3 to 5: the interface for C99, C11 and C++11.
  *
  * Every call ends, reads no byte outside the bytes that it is lent, and answers every input; nothing has to be checked
- * before it. The caller sees to it that a pointer and its length name readable bytes (the pointer may be NULL where the
- * length is 0), that a pointer to a walk, a place, a part or bounds is not NULL, that what a call writes to can be written
- * and shares no byte with anything else that it is lent, and that no other thread writes what is lent. The library is for
- * x86-64. The calls over coverages take less than 100 * YZ_LIMIT bytes of stack, the others less than 1 KB. Its functions have
- * no unwind tables: they throw nothing and call nothing of the caller, but a backtrace taken inside one, as by a signal, stops
+ * before it. The caller sees to it that a pointer and its length name readable bytes, or numbers where the pointer is to these
+ * (the pointer may be NULL where the length is 0), that a pointer to a walk, a place, a part or bounds is not NULL, that what a
+ * call writes to can be written and shares no byte with anything else that it is lent, and that no other thread writes what is
+ * lent. The library is for x86-64. How much stack a call takes, YZ_STACK and the two behind it say. Its functions have no
+ * unwind tables: they throw nothing and call nothing of the caller, but a backtrace taken inside one, as by a signal, stops
  * there.
  *
  * An answer is a struct. It begins with `result`; with YZ_REFUSED, `refusal` is the refusal's number and `refusal_value` its
@@ -56,7 +56,7 @@ extern "C" {
 #endif
 
 /* The version of this interface; it changes with every change of a struct, a number or a call. */
-#define YZ_VERSION 3
+#define YZ_VERSION 4
 
 /* The version of the library that is linked; the header is for it where this is YZ_VERSION. */
 uint32_t yz_version(void);
@@ -83,7 +83,7 @@ typedef enum yz_refusal {
     YZ_UNKNOWN_RESERVED_LENGTH = 8,   /* an initial length from 0xfffffff0 to 0xfffffffe; the length */
     YZ_UNSUPPORTED_OFFSET = 9,        /* a product or a sum is at or above 2^64 */
     YZ_TOO_MANY_RANGES = 10,          /* a yielded range past YZ_LIMIT is met */
-    YZ_NO_SPACE = 11,                 /* the output is shorter than the result */
+    YZ_NO_SPACE = 11,                 /* an output is shorter than the result */
     YZ_BAD_SHEET = 12                 /* no lawful sheet */
 } yz_refusal;
 
@@ -156,10 +156,16 @@ typedef enum yz_location_kind {
 typedef char yz_check_sizes[sizeof(yz_result) == 4 && sizeof(size_t) == 8 ? 1 : -1];
 
 /* How many ranges a coverage holds at most. */
-#define YZ_LIMIT 1024
+#define YZ_LIMIT 3000
 /* Outputs of these lengths are never refused with 11. */
 #define YZ_SHEET_MAX (4 + 16 * YZ_LIMIT)
 #define YZ_CANONICAL_MAX (19 * YZ_LIMIT + 1)
+
+/* Bytes of stack that are more than a call takes, beside what memset and memcpy of the C library do: one that reads a list for its
+ * coverage, runs or canonical list, and yz_coverage_from_canonical; the same where the list yields at most 32 ranges; any other. */
+#define YZ_STACK (48 * YZ_LIMIT + 11000)
+#define YZ_STACK_SHORT 6000
+#define YZ_STACK_OTHERS 300
 
 /* The begins or the ends of a coverage's ranges. */
 typedef struct yz_bounds { uint64_t at[YZ_LIMIT]; } yz_bounds;
@@ -449,19 +455,32 @@ yz_location yz_location_lookup(const uint8_t *section, size_t section_len, const
                                size_t debug_addr_len, uint64_t debug_addr_base, yz_encoding encoding,
                                yz_file_type file_type, uint64_t offset, uint64_t base_address, uint64_t address);
 
-/* ---- Coverage: the addresses of a list as their longest runs, ascending, in begins and ends; places past the count are 0.
- * A refused call leaves begins and ends as they were. ---- */
+/* ---- Coverage: the addresses of a list as their longest runs, ascending, in begins and ends. A refused call leaves begins and
+ * ends as they were. Bounds are written whole, 0 past the count, which clears 16 * YZ_LIMIT bytes whatever the list; the calls
+ * .._runs write the ranges and nothing else, and a list of few ranges pays for no more. ---- */
 
 /* The coverage of a range list. Refused as opening and yz_range_next are, or 10, whichever is met first. */
 yz_count yz_range_coverage(const uint8_t *section, size_t section_len, const uint8_t *debug_addr,
                            size_t debug_addr_len, uint64_t debug_addr_base, yz_encoding encoding, uint64_t offset,
                            uint64_t base_address, yz_bounds *begins, yz_bounds *ends);
 
+/* The same at the front of arrays of any lengths, counted in places; YZ_LIMIT places are always enough. Places past the count
+ * are left as they were. Refused as yz_range_coverage is, then 11 where begins or ends has fewer places than there are ranges. */
+yz_count yz_range_runs(const uint8_t *section, size_t section_len, const uint8_t *debug_addr, size_t debug_addr_len,
+                       uint64_t debug_addr_base, yz_encoding encoding, uint64_t offset, uint64_t base_address,
+                       uint64_t *begins, size_t begins_len, uint64_t *ends, size_t ends_len);
+
 /* The coverage of a location list. Refused as opening and yz_location_next are, or 10, whichever is met first. */
 yz_count yz_location_coverage(const uint8_t *section, size_t section_len, const uint8_t *debug_addr,
                               size_t debug_addr_len, uint64_t debug_addr_base, yz_encoding encoding,
                               yz_file_type file_type, uint64_t offset, uint64_t base_address, yz_bounds *begins,
                               yz_bounds *ends);
+
+/* The same at the front of arrays of any lengths, as yz_range_runs does it. Refused as yz_location_coverage is, then 11. */
+yz_count yz_location_runs(const uint8_t *section, size_t section_len, const uint8_t *debug_addr,
+                          size_t debug_addr_len, uint64_t debug_addr_base, yz_encoding encoding,
+                          yz_file_type file_type, uint64_t offset, uint64_t base_address, uint64_t *begins,
+                          size_t begins_len, uint64_t *ends, size_t ends_len);
 
 /* The coverage of a canonical list, read as a section of its own. Any little-endian DWARF 5 range list of address size 8 is
  * read so, canonical or not, also one cut between entries: yz_is_canonical is the test. Refused: 1, 2, 3, 9, 10. */

@@ -4,8 +4,11 @@
 //! Every call ends and answers every input; what can't be read gets a numbered [`Error`]. A section
 //! is a lent slice with a byte order; a list and the address table that it is read with have the
 //! same one, or are refused with [`Error::MixedByteOrders`]. Every walk has an end, since opening
-//! refuses an address size that isn't read. A walk is an [`Iterator`] too, as in gimli. The calls
-//! over a [`Coverage`] take less than 100 × [`LIMIT`] bytes of stack.
+//! refuses an address size that isn't read. A walk is an [`Iterator`] too, as in gimli.
+//!
+//! A [`Coverage`] is held by value, 16 × [`LIMIT`] bytes wherever it stands. A call that makes one of
+//! a list takes less than 70 × [`LIMIT`] bytes of stack, and 100 × where nothing is optimized; one
+//! that writes runs or a canonical list takes less than 52 ×.
 //!
 //! A package uses it by `yeltzarun = { path = ".." }`, the path of this folder. Its build script links
 //! the file that `YELTZARUN_LIBRARY` names, or the repository's `target/lib/libyeltzarun.a`, which
@@ -89,7 +92,7 @@ pub use rnglists::{RangeLists, RawRngListIter, RngListIter};
 pub use section::{DebugAddr, DebugLoc, DebugLocLists, DebugRanges, DebugRngLists};
 
 /// The version of the interface that this wrapper is for.
-pub const VERSION: u32 = 3;
+pub const VERSION: u32 = 4;
 
 /// The version of the library that is linked. Where it isn't [`VERSION`], its answers can't be
 /// understood.

@@ -1,5 +1,5 @@
-//! Compares the calls that gimli has no match for: coverage, sheets, canonical
-//! lists. Beside them stands a plain version, written for the purpose: gimli's
+//! Compares the calls that gimli has no match for: coverage, the same as runs
+//! in lent slices, sheets, canonical lists. Beside them stands a plain version, written for the purpose: gimli's
 //! walk, or the model's at size 3, gathered in a vector, sorted and merged, and
 //! the scope's bytes.
 
@@ -11,6 +11,8 @@ use crate::measure::Walk;
 
 /// How many ranges a coverage holds, and the walk that makes one may yield.
 pub const MOST: usize = crate::port::LIMIT;
+/// The same before it was raised: sheets of so many ranges are stored.
+pub const BEFORE: usize = 1024;
 
 pub type Ranges = Vec<(u64, u64)>;
 
@@ -24,9 +26,11 @@ pub struct Kept {
     pub ends: [u64; MOST],
 }
 
-/// The calls compared. A call that makes a coverage writes it to `kept`.
+/// The calls compared. A call that makes a coverage writes it to `kept`, or its
+/// ranges to the front of two slices.
 pub trait Added: Port {
     fn coverage(&self, list: &List, kept: &mut Kept) -> Wrote;
+    fn runs(&self, list: &List, begins: &mut [u64], ends: &mut [u64]) -> Wrote;
     fn coverage_from_canonical(&self, bytes: &[u8], kept: &mut Kept) -> Wrote;
     fn coverage_from_sheet(&self, sheet: &[u8], kept: &mut Kept) -> Wrote;
     fn sheet(&self, n: u64, kept: &Kept, output: &mut [u8]) -> Wrote;
@@ -167,6 +171,15 @@ fn count(met: &mut Met, call: &str, wrote: &Wrote) {
     }
 }
 
+/// Numbers of ranges around the limit, and around the one before.
+fn count_near(met: &mut Met, call: &str, wrote: &Wrote) {
+    if let Ok(n) = *wrote
+        && [BEFORE, MOST].iter().any(|&most| n.abs_diff(most as u64) <= 2)
+    {
+        met.met(format!("{call} of {n} runs"));
+    }
+}
+
 fn first_other<T: PartialEq>(one: &[T], other: &[T]) -> Option<usize> {
     one.iter().zip(other).position(|(one, other)| one != other)
 }
@@ -185,10 +198,7 @@ fn made(
         Err(refusal) => (Err(*refusal), got.clone()),
     };
     count(met, call, &wrote);
-    const NEAR: u64 = MOST as u64 - 1;
-    if let Ok(n @ NEAR..) = wrote {
-        met.met(format!("{call} of {n} runs"));
-    }
+    count_near(met, call, &wrote);
     met.same(call, &wrote, &port(&mut got))?;
     for (name, plain, got) in
         [("begins", &after.begins, &got.begins), ("ends", &after.ends, &got.ends)]
@@ -198,6 +208,70 @@ fn made(
         }
     }
     Ok(())
+}
+
+/// Numbers that differ from place to place, and stand where nothing may be
+/// written.
+fn places(r: &mut Random, length: usize) -> Vec<u64> {
+    let fill = r.next();
+    (0..length as u64).map(|at| fill.wrapping_add(at)).collect()
+}
+
+/// The call that puts the ranges of a coverage at the front of slices of two
+/// lengths: its answer, both slices whole, and what lies behind them.
+fn put(
+    met: &mut Met,
+    call: &str,
+    plain: &Result<Ranges, Refusal>,
+    (b, e): (usize, usize),
+    r: &mut Random,
+    port: impl FnOnce(&mut [u64], &mut [u64]) -> Wrote,
+) -> Result<(), String> {
+    const BEHIND: usize = 3;
+    let (mut begins, mut ends) = (places(r, b + BEHIND), places(r, e + BEHIND));
+    let mut after = (begins.clone(), ends.clone());
+    let wrote = match plain {
+        Ok(ranges) if ranges.len() > b || ranges.len() > e => no(11),
+        Ok(ranges) => {
+            for (at, &(begin, end)) in ranges.iter().enumerate() {
+                (after.0[at], after.1[at]) = (begin, end);
+            }
+            Ok(ranges.len() as u64)
+        }
+        Err(refusal) => Err(*refusal),
+    };
+    count(met, call, &wrote);
+    count_near(met, call, &wrote);
+    let into = format!("{call} into {b} and {e} places");
+    met.same(&into, &wrote, &port(&mut begins[..b], &mut ends[..e]))?;
+    for (name, plain, got) in [("begins", &after.0, &begins), ("ends", &after.1, &ends)] {
+        if let Some(at) = first_other(plain, got) {
+            return Err(format!("{into}: {name}[{at}]: {:x}, port {:x}", plain[at], got[at]));
+        }
+    }
+    Ok(())
+}
+
+/// Lengths of two slices around the number of ranges; all of them where it is
+/// small.
+fn two_lengths(r: &mut Random, plain: &Result<Ranges, Refusal>, all: bool) -> Vec<(usize, usize)> {
+    let n = match plain {
+        Ok(ranges) => ranges.len(),
+        Err(_) => return vec![(0, 0), (r.below(64) as usize, r.below(64) as usize)],
+    };
+    if all && n <= 3 {
+        let other = |b| (0..n + 3).map(move |e| (b, e));
+        return (0..n + 3).flat_map(other).collect();
+    }
+    let less = n.saturating_sub(1);
+    let mut any = || r.below(n as u64 + 40) as usize;
+    let (one, other) = (any(), any());
+    if all {
+        let around = [(n, n), (n + 1, n + 1), (less, n), (n, less), (0, n), (n, 0)];
+        return [&around[..], &[(one, other), (one, n + 1), (n + 1, other)]].concat();
+    }
+    let enough = r.pick(&[(n, n), (n + 1, n), (n, n + 2), (n.max(one), n.max(other))]);
+    vec![r.pick(&[(less, n), (n, less), (one, other), (0, 0)]), enough]
 }
 
 /// A call that writes bytes to an output of a length: its answer, the output
@@ -265,6 +339,9 @@ pub fn covering(
     met: &mut Met,
 ) -> Result<(), String> {
     made(met, "coverage", &plain, r, |kept| port.coverage(list, kept))?;
+    for lengths in two_lengths(r, &plain, all) {
+        put(met, "runs", &plain, lengths, r, |begins, ends| port.runs(list, begins, ends))?;
+    }
     let bytes = plain.as_ref().map(canonical).map_err(|refusal| *refusal);
     for length in lengths(r, &bytes, all) {
         let call = "canonical of a list";
@@ -345,6 +422,8 @@ pub fn other_size(
     let refused = coverage(list);
     let bytes = refused.as_ref().map(canonical).map_err(|refusal| *refusal);
     made(met, "coverage, other size", &refused, r, |kept| port.coverage(list, kept))?;
+    let call = "runs, other size";
+    put(met, call, &refused, (2, 1), r, |begins, ends| port.runs(list, begins, ends))?;
     let call = "canonical of a list, other size";
     wrote(met, call, &bytes, 32, r, |output| port.canonical_of(list, output))
 }

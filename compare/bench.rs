@@ -34,7 +34,7 @@ mod bench_sets;
 #[allow(dead_code)]
 mod elf;
 
-use bench_gimli::{Covering, Heading, Lists, Seeking, Walking, Writing};
+use bench_gimli::{Covering, Heading, Lists, Putting, Seeking, Walking, Writing};
 use bench_rows::{Kind, Row, Task};
 use oracle::endianity::RunTimeEndian;
 use std::hint::black_box;
@@ -50,7 +50,10 @@ fn sides(row: &Row) -> [Run<'_>; 3] {
         Task::Walk => walks(row),
         Task::Lookup(address) => lookups(row, address),
         Task::Coverage => coverages(row),
+        Task::Runs => runs(row),
         Task::Canonical => canonicals(row),
+        Task::Sheet => sheets(row),
+        Task::FromSheet => from_sheets(row),
         Task::Headers => headers(row),
     }
 }
@@ -101,6 +104,18 @@ fn coverages(row: &Row) -> [Run<'_>; 3] {
     ]
 }
 
+fn runs(row: &Row) -> [Run<'_>; 3] {
+    use bench_sets::Runs;
+    let (one, several) = (Lists::<Putting>::new(row), Lists::<RunTimeEndian>::new(row));
+    let (mut found, mut found_several) = (Vec::new(), Vec::new());
+    let [mut a, mut b, mut c] = [(); 3].map(|_| Runs::new());
+    [
+        Box::new(move |passes| bench_port::runs(row, &mut a, passes)),
+        Box::new(move |passes| bench_sets::runs(&one, &mut found, &mut b, passes)),
+        Box::new(move |passes| bench_sets::runs(&several, &mut found_several, &mut c, passes)),
+    ]
+}
+
 fn canonicals(row: &Row) -> [Run<'_>; 3] {
     let (one, several) = (Lists::<Writing>::new(row), Lists::<RunTimeEndian>::new(row));
     let (mut found, mut found_several) = (Vec::new(), Vec::new());
@@ -110,6 +125,36 @@ fn canonicals(row: &Row) -> [Run<'_>; 3] {
         Box::new(move |passes| bench_port::canonical(row, &mut a, passes)),
         Box::new(move |passes| bench_sets::canonical(&one, &mut found, &mut b, passes)),
         Box::new(move |passes| bench_sets::canonical(&several, &mut found_several, &mut c, passes)),
+    ]
+}
+
+/// The coverage of a row's list, made once.
+fn covered(row: &Row) -> bench_sets::Coverage {
+    let lists = Lists::<RunTimeEndian>::new(row);
+    bench_sets::coverage_once(lists.open_ranges(lists.offset), &mut Vec::new()).expect("a coverage")
+}
+
+/// gimli has no sheets: both its columns are the same plain Rust.
+fn sheets(row: &Row) -> [Run<'_>; 3] {
+    let [made, one, several] = [(); 3].map(|_| Box::new(covered(row)));
+    let [mut a, mut b, mut c] = [(); 3].map(|_| vec![0; bench_sets::LARGEST]);
+    [
+        Box::new(move |passes| bench_port::sheet(&made, &mut a, passes)),
+        Box::new(move |passes| bench_sets::sheet(&one, &mut b, passes)),
+        Box::new(move |passes| bench_sets::sheet(&several, &mut c, passes)),
+    ]
+}
+
+fn from_sheets(row: &Row) -> [Run<'_>; 3] {
+    let mut bytes = vec![0; bench_sets::LARGEST];
+    bench_sets::sheet(&covered(row), &mut bytes, 1);
+    bytes.truncate(4 + 16 * row.yields as usize);
+    let [port, one, several] = [(); 3].map(|_| bytes.clone());
+    let [mut a, mut b, mut c] = [(); 3].map(|_| Box::new(bench_sets::Coverage::new()));
+    [
+        Box::new(move |passes| bench_port::from_sheet(&port, &mut a, passes)),
+        Box::new(move |passes| bench_sets::from_sheet(&one, &mut b, passes)),
+        Box::new(move |passes| bench_sets::from_sheet(&several, &mut c, passes)),
     ]
 }
 

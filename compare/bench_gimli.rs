@@ -3,9 +3,9 @@
 //!
 //! Over `RunTimeEndian` all loops of the program share one `next`, which stays
 //! a call ("several callers"). Each of the byte orders `Walking`, `Seeking`,
-//! `Covering`, `Writing`, `Heading` is a `RunTimeEndian` under another name, so
-//! that its `next` has one caller and is inlined there ("one caller"); those
-//! with `Real` before are for loops over many lists.
+//! `Covering`, `Putting`, `Writing`, `Heading` is a `RunTimeEndian` under another
+//! name, so that its `next` has one caller and is inlined there ("one caller");
+//! those with `Real` before are for loops over many lists.
 
 use crate::bench_rows::{Kind, Row};
 use oracle::common::{DebugAddrBase, Encoding, Format, LocationListsOffset, RangeListsOffset};
@@ -38,7 +38,8 @@ macro_rules! orders {
     };
 }
 
-orders! { Walking Seeking Covering Writing Heading RealWalking RealSeeking RealCovering RealWriting }
+orders! { Walking Seeking Covering Putting Writing Heading }
+orders! { RealWalking RealSeeking RealCovering RealPutting RealWriting }
 
 /// A byte order that the program chooses when it runs.
 pub trait Order: Endianity + From<RunTimeEndian> {}

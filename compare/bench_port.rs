@@ -9,7 +9,7 @@
 mod ffi;
 
 use crate::bench_rows::{Kind, Row};
-use crate::bench_sets::{Coverage, sum_of_bytes};
+use crate::bench_sets::{Coverage, Runs, sum_of_bytes};
 use ffi::*;
 pub use ffi::{Encoding, LIMIT};
 use std::hint::black_box;
@@ -207,6 +207,38 @@ pub fn location_coverage_once(row: &Row, encoding: &Encoding, offset: u64, made:
 }
 
 #[inline(never)]
+pub fn runs(row: &Row, made: &mut Runs, passes: u64) -> u64 {
+    let encoding = encoding(row);
+    repeat!(passes, {
+        let row = black_box(row);
+        range_runs_once(row, black_box(&encoding), row.offset, made);
+        black_box(&*made).n
+    });
+    made.sum()
+}
+
+#[inline(always)]
+pub fn range_runs_once(row: &Row, encoding: &Encoding, offset: u64, made: &mut Runs) {
+    let ((s, n, t, m), encoding, table_base) = (lent(row), *encoding, row.table_base);
+    let (base, b, e) = (row.base_address, made.begins.len(), made.ends.len());
+    let (begins, ends) = (made.begins.as_mut_ptr(), made.ends.as_mut_ptr());
+    made.n = counted(unsafe {
+        yz_range_runs(s, n, t, m, table_base, encoding, offset, base, begins, b, ends, e)
+    });
+}
+
+#[inline(always)]
+pub fn location_runs_once(row: &Row, encoding: &Encoding, offset: u64, made: &mut Runs) {
+    let ((s, n, t, m), encoding, table_base) = (lent(row), *encoding, row.table_base);
+    let (file, base) = (file_type(row), row.base_address);
+    let (begins, b) = (made.begins.as_mut_ptr(), made.begins.len());
+    let (ends, e) = (made.ends.as_mut_ptr(), made.ends.len());
+    made.n = counted(unsafe {
+        yz_location_runs(s, n, t, m, table_base, encoding, file, offset, base, begins, b, ends, e)
+    });
+}
+
+#[inline(never)]
 pub fn canonical(row: &Row, output: &mut [u8], passes: u64) -> u64 {
     let encoding = encoding(row);
     let written = repeat!(passes, {
@@ -240,4 +272,26 @@ pub fn location_canonical_once(
     counted(unsafe {
         yz_location_canonical(s, n, t, m, table_base, encoding, file, offset, base, o, length)
     })
+}
+
+#[inline(never)]
+pub fn sheet(made: &Coverage, output: &mut [u8], passes: u64) -> u64 {
+    let written = repeat!(passes, {
+        let (made, o, length) = (black_box(made), output.as_mut_ptr(), output.len());
+        let written = counted(unsafe { yz_sheet(made.n, &made.begins, &made.ends, o, length) });
+        black_box(&*output);
+        written
+    });
+    sum_of_bytes(&output[..written as usize])
+}
+
+#[inline(never)]
+pub fn from_sheet(sheet: &[u8], made: &mut Coverage, passes: u64) -> u64 {
+    repeat!(passes, {
+        let sheet = black_box(sheet);
+        let (s, n, begins, ends) = (sheet.as_ptr(), sheet.len(), &mut made.begins, &mut made.ends);
+        made.n = counted(unsafe { yz_coverage_from_sheet(s, n, begins, ends) });
+        black_box(&*made).n
+    });
+    made.sum()
 }

@@ -4,10 +4,10 @@
 //! and the section that hold it, what it is read with, and what it comes to.
 
 use crate::bench_gimli::{self, Lists, Order, refused};
-use crate::bench_gimli::{RealCovering, RealSeeking, RealWalking, RealWriting};
+use crate::bench_gimli::{RealCovering, RealPutting, RealSeeking, RealWalking, RealWriting};
 use crate::bench_port::{self, Encoding};
 use crate::bench_rows::{Kind, NOWHERE, Row, Task};
-use crate::bench_sets::{self, Coverage, LONGEST, MOST, sum_of_bytes};
+use crate::bench_sets::{self, Coverage, LONGEST, MOST, Runs, sum_of_bytes};
 use crate::elf::{self, Elf};
 use crate::{Run, Settings, fail, header, mark, measure, print};
 use oracle::endianity::RunTimeEndian;
@@ -147,14 +147,16 @@ enum Reading {
     Absent,
     Covered,
     Coverage,
+    Runs,
     Canonical,
 }
 
-const READINGS: [(&str, Reading); 5] = [
+const READINGS: [(&str, Reading); 6] = [
     ("walk", Reading::Walk),
     ("lookup-absent", Reading::Absent),
     ("lookup-covered", Reading::Covered),
     ("coverage", Reading::Coverage),
+    ("runs", Reading::Runs),
     ("canonical", Reading::Canonical),
 ];
 
@@ -165,7 +167,9 @@ impl Reading {
             && match self {
                 Reading::Walk | Reading::Absent => true,
                 Reading::Covered => list.yields > 0,
-                Reading::Coverage | Reading::Canonical => list.yields <= MOST as u64,
+                Reading::Coverage | Reading::Runs | Reading::Canonical => {
+                    list.yields <= MOST as u64
+                }
             }
     }
 
@@ -286,6 +290,39 @@ fn gimli_coverages<'a, E: Order + 'a>(pass: &'a Pass<'_>) -> Run<'a> {
     })
 }
 
+/// With the last runs in the answer.
+fn port_runs<'a>(pass: &'a Pass<'_>) -> Run<'a> {
+    let (ranges, locations) = (port(&pass.ranges), port(&pass.locations));
+    let mut made = Runs::new();
+    Box::new(move |passes| {
+        let sum = all(&ranges, passes, |(row, encoding), place| {
+            bench_port::range_runs_once(row, encoding, place.offset, &mut made);
+            black_box(&made).n
+        }) ^ all(&locations, passes, |(row, encoding), place| {
+            bench_port::location_runs_once(row, encoding, place.offset, &mut made);
+            black_box(&made).n
+        });
+        sum ^ made.sum()
+    })
+}
+
+fn gimli_runs<'a, E: Order + 'a>(pass: &'a Pass<'_>) -> Run<'a> {
+    let (ranges, locations) = (gimli::<E>(&pass.ranges), gimli::<E>(&pass.locations));
+    let (mut found, mut made) = (Vec::new(), Runs::new());
+    Box::new(move |passes| {
+        let sum = all(&ranges, passes, |lists, place| {
+            let walk = lists.open_ranges(place.offset);
+            bench_sets::runs_once(walk, &mut found, &mut made).expect("runs");
+            black_box(&made).n
+        }) ^ all(&locations, passes, |lists, place| {
+            let walk = lists.open_locations(place.offset);
+            bench_sets::runs_once(walk, &mut found, &mut made).expect("runs");
+            black_box(&made).n
+        });
+        sum ^ made.sum()
+    })
+}
+
 /// With the last list written in the answer.
 fn port_canonicals<'a>(pass: &'a Pass<'_>) -> Run<'a> {
     let (ranges, locations) = (port(&pass.ranges), port(&pass.locations));
@@ -341,6 +378,9 @@ fn sides<'a>(reading: Reading, pass: &'a Pass<'_>) -> [Run<'a>; 3] {
             gimli_coverages::<RealCovering>(pass),
             gimli_coverages::<RunTimeEndian>(pass),
         ],
+        Reading::Runs => {
+            [port_runs(pass), gimli_runs::<RealPutting>(pass), gimli_runs::<RunTimeEndian>(pass)]
+        }
         Reading::Canonical => [
             port_canonicals(pass),
             gimli_canonicals::<RealWriting>(pass),

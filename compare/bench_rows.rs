@@ -16,7 +16,12 @@ pub enum Task {
     /// The first entry that holds the address.
     Lookup(u64),
     Coverage,
+    /// The coverage's ranges at the front of slices, and nothing else.
+    Runs,
     Canonical,
+    /// The sheet of the list's coverage, written, and read back.
+    Sheet,
+    FromSheet,
     /// The headers of the address section, one after the other.
     Headers,
 }
@@ -401,11 +406,14 @@ fn shuffled(count: u64) -> Vec<u64> {
     indexes
 }
 
-/// Coverage and canonical list of ranges that neither overlap nor touch.
+/// Coverage, as arrays and as runs, and canonical list of ranges that neither
+/// overlap nor touch.
 fn sets(rows: &mut Rows<'_>) {
     let plan = Plan::new(Kind::Ranges, Pattern::All(StartLength), 8, false);
-    for (word, task) in [("coverage", Task::Coverage), ("canonical", Task::Canonical)] {
-        for count in [1, 4, 32, 33, 1024] {
+    let tasks =
+        [("coverage", Task::Coverage), ("runs", Task::Runs), ("canonical", Task::Canonical)];
+    for (word, task) in tasks {
+        for count in [1, 4, 32, 33, 1024, 3000] {
             let orders = [
                 ("ascending", (0..count).collect::<Vec<_>>()),
                 ("descending", (0..count).rev().collect()),
@@ -415,6 +423,17 @@ fn sets(rows: &mut Rows<'_>) {
                 let name = format!("{word}-{order}-{count}");
                 rows.add(name, |name| Row { task, ..plan.row(name, indexes.into_iter()) });
             }
+        }
+    }
+}
+
+/// Sheets of ranges that neither overlap nor touch.
+fn sheets(rows: &mut Rows<'_>) {
+    let plan = Plan::new(Kind::Ranges, Pattern::All(StartLength), 8, false);
+    for (word, task) in [("sheet", Task::Sheet), ("from-sheet", Task::FromSheet)] {
+        for count in [1, 1024, 3000] {
+            let name = format!("{word}-{count}");
+            rows.add(name, |name| Row { task, ..plan.row(name, 0..count) });
         }
     }
 }
@@ -437,7 +456,13 @@ fn tables(size: u8, big: bool, dwarf64: bool, count: u64) -> Vec<u8> {
 }
 
 fn headers(rows: &mut Rows<'_>) {
-    let plans = [(1, false, false), (4, false, false), (8, false, false), (8, true, false), (8, false, true)];
+    let plans = [
+        (1, false, false),
+        (4, false, false),
+        (8, false, false),
+        (8, true, false),
+        (8, false, true),
+    ];
     for (size, big, dwarf64) in plans {
         let (order, format) = (order_word(big), if dwarf64 { 64 } else { 32 });
         for count in [3, 1000] {
@@ -474,6 +499,7 @@ pub fn rows(wanted: &dyn Fn(&str) -> bool) -> Vec<Row> {
     walks(&mut rows);
     lookups(&mut rows);
     sets(&mut rows);
+    sheets(&mut rows);
     headers(&mut rows);
     growth(&mut rows);
     rows.rows

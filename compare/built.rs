@@ -4,7 +4,7 @@
 
 use generator::{Kind, ListCase, Random};
 
-use crate::added::{self, Added, Kept, MOST, Ranges};
+use crate::added::{self, Added, BEFORE, Kept, MOST, Ranges};
 use crate::differ::{Met, list_of};
 
 /// All calls of a seed's case.
@@ -27,14 +27,15 @@ pub fn list(port: &impl Added, r: &mut Random, sizes: &[u8], met: &mut Met) -> R
     met.measured_at(case.address_size, |met| added::list(port, &list_of(&case), r, true, met))
 }
 
-/// How many ranges: few, some, or around the most that are held.
+/// How many ranges: few, some, or around the most that are held, or were
+/// before.
 fn how_many(r: &mut Random) -> usize {
     match r.below(8) {
         0 => r.pick(&[0, 1, 2]),
         1..=4 => 1 + r.below(40) as usize,
         5 => 1 + r.below(MOST as u64 * 5 / 4) as usize,
-        6 => r.pick(&[MOST - 1, MOST, MOST + 1, MOST + 2]),
-        _ => r.pick(&[MOST - 1, MOST, MOST + 1, 2 * MOST + 1]),
+        6 => r.pick(&[BEFORE - 2, BEFORE - 1, BEFORE, BEFORE + 1, BEFORE + 2, 2 * MOST + 1]),
+        _ => r.pick(&[MOST - 2, MOST - 1, MOST, MOST + 1, MOST + 2]),
     }
 }
 
@@ -61,7 +62,12 @@ const SHAPES: [Shape; 6] = [
 /// Ranges below `top`, none empty, ascending but where the shape says
 /// otherwise.
 fn some_ranges(r: &mut Random, count: usize, top: u64) -> Ranges {
-    let only = if r.one_in(1, 2) { Some(r.pick(&SHAPES)) } else { None };
+    // Apart more often than otherwise, so that many ranges make many runs.
+    let only = match r.below(4) {
+        0 | 1 => Some(r.pick(&SHAPES)),
+        2 => Some(Shape::Apart),
+        _ => None,
+    };
     let wide = r.pick(&[1, 4, 0x90]);
     let (mut begin, mut end) = (r.below(8), 9 + r.below(wide));
     let mut ranges = Ranges::new();
@@ -324,7 +330,8 @@ fn sheets(port: &impl Added, r: &mut Random, met: &mut Met) -> Result<(), String
         sheet[at..at + bytes.len()].copy_from_slice(bytes);
         sheet
     };
-    let counts = [0, count.wrapping_sub(1), count + 1, MOST, MOST + 1, 0x4000, 0xffff];
+    let counts =
+        [0, count.wrapping_sub(1), count + 1, BEFORE, BEFORE + 1, MOST, MOST + 1, 0x4000, 0xffff];
     for other in counts {
         added::from_sheet(port, &field(0, &(other as u16).to_le_bytes()), r, met)?;
     }
@@ -344,12 +351,15 @@ fn sheets(port: &impl Added, r: &mut Random, met: &mut Met) -> Result<(), String
         };
         added::from_sheet(port, &field(at, &word.to_le_bytes()), r, met)?;
     }
-    over_full(port, r, met)
+    for count in [BEFORE, BEFORE + 1, MOST, MOST + 1] {
+        full(port, count, r, met)?;
+    }
+    Ok(())
 }
 
-/// A sheet of one range too many, right but for its count.
-fn over_full(port: &impl Added, r: &mut Random, met: &mut Met) -> Result<(), String> {
-    let ranges: Ranges = (0..MOST as u64 + 1).map(|at| (4 * at, 4 * at + 1)).collect();
+/// A sheet of as many ranges as are held, or were before, or of one more.
+fn full(port: &impl Added, count: usize, r: &mut Random, met: &mut Met) -> Result<(), String> {
+    let ranges: Ranges = (0..count as u64).map(|at| (4 * at, 4 * at + 1)).collect();
     added::from_sheet(port, &added::sheet(&ranges), r, met)
 }
 

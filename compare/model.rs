@@ -453,6 +453,11 @@ fn keep(runs: Ranges, kept: &mut Kept) -> Wrote {
     Ok(runs.len() as u64)
 }
 
+/// The begins, or the ends, at the front of a slice.
+fn put_front(numbers: impl Iterator<Item = u64>, places: &mut [u64]) {
+    places.iter_mut().zip(numbers).for_each(|(place, number)| *place = number);
+}
+
 fn put_out(bytes: &[u8], output: &mut [u8]) -> Wrote {
     let Some(part) = output.get_mut(..bytes.len()) else { return no(11, 0) };
     part.copy_from_slice(bytes);
@@ -462,6 +467,16 @@ fn put_out(bytes: &[u8], output: &mut [u8]) -> Wrote {
 impl Added for Model {
     fn coverage(&self, list: &List, kept: &mut Kept) -> Wrote {
         keep(runs(list)?, kept)
+    }
+
+    fn runs(&self, list: &List, begins: &mut [u64], ends: &mut [u64]) -> Wrote {
+        let runs = runs(list)?;
+        if begins.len().min(ends.len()) < runs.len() {
+            return no(11, 0);
+        }
+        put_front(runs.iter().map(|run| run.0), begins);
+        put_front(runs.iter().map(|run| run.1), ends);
+        Ok(runs.len() as u64)
     }
 
     fn coverage_from_canonical(&self, bytes: &[u8], kept: &mut Kept) -> Wrote {

@@ -410,6 +410,19 @@ impl Added for Ffi {
         })
     }
 
+    fn runs(&self, list: &List, begins: &mut [u64], ends: &mut [u64]) -> Wrote {
+        let (s, n, t, m) = lent(list);
+        let (base, encoding) = (list.table_base, encoding(list));
+        let (at, low) = (list.offset, list.base_address);
+        let (b, e, bs, es) = (begins.len(), ends.len(), begins.as_mut_ptr(), ends.as_mut_ptr());
+        wrote(if list.kind == Kind::Ranges {
+            unsafe { yz_range_runs(s, n, t, m, base, encoding, at, low, bs, b, es, e) }
+        } else {
+            let file = file_type(list);
+            unsafe { yz_location_runs(s, n, t, m, base, encoding, file, at, low, bs, b, es, e) }
+        })
+    }
+
     fn coverage_from_canonical(&self, bytes: &[u8], kept: &mut Kept) -> Wrote {
         let (s, n) = (bytes.as_ptr(), bytes.len());
         wrote(unsafe { yz_coverage_from_canonical(s, n, &mut kept.begins, &mut kept.ends) })

@@ -4,6 +4,7 @@ use super::ffi;
 use super::reader::part;
 use super::{Error, LIMIT, Range, Result};
 use core::fmt;
+use core::mem::MaybeUninit;
 
 /// A sheet has at most this many bytes.
 pub const SHEET_MAX: usize = 4 + 16 * LIMIT;
@@ -19,12 +20,23 @@ pub struct Coverage {
 }
 
 impl Coverage {
-    pub(super) fn made(
-        call: impl FnOnce(&mut ffi::Bounds, &mut ffi::Bounds) -> ffi::Answer<u64>,
+    /// What a call makes. It writes all of begins and ends, so that they are not cleared before it.
+    ///
+    /// # Safety
+    ///
+    /// A call that is done has written both whole.
+    pub(super) unsafe fn made(
+        call: impl FnOnce(*mut ffi::Bounds, *mut ffi::Bounds) -> ffi::Answer<u64>,
     ) -> Result<Coverage> {
-        let mut coverage = Coverage { n: 0, begins: [0; LIMIT], ends: [0; LIMIT] };
-        coverage.n = call(&mut coverage.begins, &mut coverage.ends).done()? as usize;
-        Ok(coverage)
+        let mut coverage = MaybeUninit::<Coverage>::uninit();
+        let made = coverage.as_mut_ptr();
+        // SAFETY: the places are in `coverage`, and no reference is made to what isn't written yet;
+        // when all is written, it is a coverage.
+        unsafe {
+            let n = call(&raw mut (*made).begins, &raw mut (*made).ends).done()?;
+            (&raw mut (*made).n).write(n as usize);
+            Ok(coverage.assume_init())
+        }
     }
 
     /// Ranges taken as they are; more than [`LIMIT`] are refused. Whether they make a coverage is
@@ -110,10 +122,9 @@ impl<'a> Sheet<'a> {
 
     /// The coverage that the sheet holds.
     pub fn coverage(&self) -> Result<Coverage> {
-        // SAFETY: pointer and length are of one slice.
-        Coverage::made(|begins, ends| unsafe {
-            ffi::yz_coverage_from_sheet(self.bytes.as_ptr(), self.bytes.len(), begins, ends)
-        })
+        let (s, n) = (self.bytes.as_ptr(), self.bytes.len());
+        // SAFETY: pointer and length are of one slice; a call that is done writes all places.
+        unsafe { Coverage::made(|begins, ends| ffi::yz_coverage_from_sheet(s, n, begins, ends)) }
     }
 }
 
@@ -139,10 +150,11 @@ impl<'a> CanonicalList<'a> {
     /// range list of address size 8 is read so, canonical or not, also one cut between entries:
     /// [`is_canonical`](CanonicalList::is_canonical) is the test.
     pub fn coverage(&self) -> Result<Coverage> {
-        // SAFETY: pointer and length are of one slice.
-        Coverage::made(|begins, ends| unsafe {
-            ffi::yz_coverage_from_canonical(self.bytes.as_ptr(), self.bytes.len(), begins, ends)
-        })
+        let (s, n) = (self.bytes.as_ptr(), self.bytes.len());
+        // SAFETY: pointer and length are of one slice; a call that is done writes all places.
+        unsafe {
+            Coverage::made(|begins, ends| ffi::yz_coverage_from_canonical(s, n, begins, ends))
+        }
     }
 
     /// Whether the bytes, no more and no fewer, are the canonical list of some coverage.

@@ -29,7 +29,7 @@ pub enum Error {
     UnsupportedOffset,
     /// A list yields more than [`LIMIT`](super::LIMIT) ranges.
     TooManyRanges,
-    /// The output is shorter than the result.
+    /// An output is shorter than the result.
     NoSpace,
     /// The bytes or the ranges make no lawful sheet.
     BadSheet,

@@ -2,7 +2,7 @@
 //! length.
 
 /// How many ranges a coverage holds at most.
-pub const LIMIT: usize = 1024;
+pub const LIMIT: usize = 3000;
 
 pub type Ptr = *const u8;
 pub type Bounds = [u64; LIMIT];
@@ -195,17 +195,26 @@ unsafe extern "C" {
 
     pub fn yz_range_coverage(
         s: Ptr, n: usize, t: Ptr, m: usize, table_base: u64, encoding: Encoding, offset: u64,
-        base_address: u64, begins: &mut Bounds, ends: &mut Bounds,
+        base_address: u64, begins: *mut Bounds, ends: *mut Bounds,
+    ) -> Answer<u64>;
+    pub fn yz_range_runs(
+        s: Ptr, n: usize, t: Ptr, m: usize, table_base: u64, encoding: Encoding, offset: u64,
+        base_address: u64, begins: *mut u64, begins_len: usize, ends: *mut u64, ends_len: usize,
     ) -> Answer<u64>;
     pub fn yz_location_coverage(
         s: Ptr, n: usize, t: Ptr, m: usize, table_base: u64, encoding: Encoding, file_type: u32,
-        offset: u64, base_address: u64, begins: &mut Bounds, ends: &mut Bounds,
+        offset: u64, base_address: u64, begins: *mut Bounds, ends: *mut Bounds,
+    ) -> Answer<u64>;
+    pub fn yz_location_runs(
+        s: Ptr, n: usize, t: Ptr, m: usize, table_base: u64, encoding: Encoding, file_type: u32,
+        offset: u64, base_address: u64, begins: *mut u64, begins_len: usize, ends: *mut u64,
+        ends_len: usize,
     ) -> Answer<u64>;
     pub fn yz_coverage_from_canonical(
-        s: Ptr, n: usize, begins: &mut Bounds, ends: &mut Bounds,
+        s: Ptr, n: usize, begins: *mut Bounds, ends: *mut Bounds,
     ) -> Answer<u64>;
     pub fn yz_coverage_from_sheet(
-        s: Ptr, n: usize, begins: &mut Bounds, ends: &mut Bounds,
+        s: Ptr, n: usize, begins: *mut Bounds, ends: *mut Bounds,
     ) -> Answer<u64>;
     pub fn yz_sheet(
         n: u64, begins: &Bounds, ends: &Bounds, output: *mut u8, len: usize,

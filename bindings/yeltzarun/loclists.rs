@@ -135,9 +135,48 @@ impl<'a> LocationLists<'a> {
     ) -> Result<Coverage> {
         let l = self.written(unit_encoding);
         let t = l.table(debug_addr, debug_addr_base)?;
-        // SAFETY: each pointer and length are of one slice.
-        Coverage::made(|begins, ends| unsafe {
-            ffi::yz_location_coverage(
+        // SAFETY: each pointer and length are of one slice; a call that is done writes all places.
+        unsafe {
+            Coverage::made(|begins, ends| {
+                ffi::yz_location_coverage(
+                    l.ptr(),
+                    l.len(),
+                    t.ptr(),
+                    t.len(),
+                    t.base,
+                    l.encoding,
+                    file_type.number(),
+                    offset.0,
+                    base_address,
+                    begins,
+                    ends,
+                )
+            })
+        }
+    }
+
+    /// The ranges of the coverage of the list at an offset, put at the front of two slices, and how
+    /// many there are; [`LIMIT`](super::LIMIT) places are always enough. Places past the count are
+    /// left as they were. Last of all refusals, [`NoSpace`](super::Error::NoSpace) where a slice is
+    /// shorter than the number of ranges; a refused call writes nothing. To clear the arrays of a
+    /// [`Coverage`] costs 48 KB for every list; here one of few ranges pays for these alone.
+    #[allow(clippy::too_many_arguments)]
+    pub fn runs(
+        &self,
+        offset: LocationListsOffset,
+        unit_encoding: Encoding,
+        file_type: DwarfFileType,
+        base_address: u64,
+        debug_addr: &DebugAddr<'a>,
+        debug_addr_base: DebugAddrBase,
+        begins: &mut [u64],
+        ends: &mut [u64],
+    ) -> Result<usize> {
+        let l = self.written(unit_encoding);
+        let t = l.table(debug_addr, debug_addr_base)?;
+        // SAFETY: each pointer and length are of one slice, and begins and ends are lent alone.
+        let answer = unsafe {
+            ffi::yz_location_runs(
                 l.ptr(),
                 l.len(),
                 t.ptr(),
@@ -147,10 +186,13 @@ impl<'a> LocationLists<'a> {
                 file_type.number(),
                 offset.0,
                 base_address,
-                begins,
-                ends,
+                begins.as_mut_ptr(),
+                begins.len(),
+                ends.as_mut_ptr(),
+                ends.len(),
             )
-        })
+        };
+        answer.done().map(|count| count as usize)
     }
 
     /// The canonical list of the list at an offset, written into an output;

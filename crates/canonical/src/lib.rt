@@ -5,6 +5,7 @@ pub mod of_list;
 use bytes::error::Error;
 use bytes::put::put_u64;
 use coverage::Coverage;
+use coverage::LIMIT;
 use coverage::Wrote;
 use coverage::lawful::is_lawful;
 use entries::constants;
@@ -16,7 +17,7 @@ ghost use Rattle.bytes.specs.Written.{unsignedBytes};
 ghost use Rattle.canonical.specs.Canonical.{canonicalBytes, canonicalKept};
 ghost use Rattle.coverage.specs.Output.{output, written};
 ghost use Rattle.coverage.specs.Told.{toldWrote};
-ghost use Rattle.coverage.specs.Kept.{firsts};
+ghost use Rattle.coverage.specs.Kept.{counted, firsts};
 ghost use Rattle.canonical.specs.Arrays.{Arrays};
 ghost use Rattle.canonical.specs.Put.{Enough, Put};
 
@@ -110,15 +111,21 @@ pub(crate) fn put_list(n: usize, begins: &[u64], ends: &[u64], out: &mut [u8]) -
     Wrote::Bytes(write(n, begins, ends, out))
 }
 
-// The canonical list of a coverage, and how many bytes it has: 12 where the coverage makes no lawful sheet, then 11.
+// The canonical list of a coverage in two arrays, and how many bytes it has: 12 where it makes no lawful sheet, then 11.
+pub fn canonical_of(n: usize, begins: &[u64; LIMIT], ends: &[u64; LIMIT], out: &mut [u8]) -> Wrote
+    ensures { λ r. ⌜ output (toldWrote r) (now (out .exit)) ≡ written (canonicalKept (counted n (now (begins .entry)) (now (ends .entry)))) (now (out .entry)) ⌝ }
+{
+    if !is_lawful(n, begins, ends) {
+        return Wrote::Refused(Error::BadSheet);
+    }
+    put_list(n, begins, ends, out)
+}
+
+// The same of a coverage by value.
 pub fn canonical(coverage: Coverage, out: &mut [u8]) -> Wrote
     ensures { λ r. ⌜ output (toldWrote r) (now (out .exit)) ≡ written (canonicalKept coverage) (now (out .entry)) ⌝ }
 {
-    if !is_lawful(coverage) {
-        return Wrote::Refused(Error::BadSheet);
-    }
-    let n = coverage.n;
     let begins = coverage.begins;
     let ends = coverage.ends;
-    put_list(n, &begins, &ends, out)
+    canonical_of(coverage.n, &begins, &ends, out)
 }

@@ -16,7 +16,7 @@ use Rattle.coverage.specs.Ranges.{insert, inserts}
 use Rattle.coverage.specs.Covered.{Source, source, rangeList, yieldedIn, traceOf, yieldedOf, coverageOf}
 use Rattle.coverage.specs.Kept.{lawfulFrom}
 use Rattle.bytes.specs.Written.{littleBytes, unsignedIn}
-use Rattle.sheets.specs.Sheet.{addressBytes, sheetBytes, addressesIn, isSheet, sheetRanges}
+use Rattle.sheets.specs.Sheet.{addressBytes, sheetBytes, addressesIn, isSheetWithin, sheetRanges}
 use Rattle.canonical.specs.Canonical.{entryBytes, canonicalBytes, canonicalOf}
 
 -- ranges 0x20 to 0x30 and 0x10 to 0x20 of a list of address size 4
@@ -51,9 +51,9 @@ unfolding
 canonical-narrow = refl
 
 no-sheet : sheetRanges (0x01 ∷ 0 ∷ 0x08 ∷ 0 ∷ []) ≡ refused 12 []
-unfolding sheetRanges isSheet little
+unfolding sheetRanges isSheetWithin little
 no-sheet = refl
 
 sheet-back : sheetRanges (sheetBytes ((0x10, 0x30) ∷ (0x40, 0x50) ∷ [])) ≡ gives ((0x10, 0x30) ∷ (0x40, 0x50) ∷ [])
-unfolding sheetRanges isSheet little sheetBytes addressBytes littleBytes addressesIn lawfulFrom
+unfolding sheetRanges isSheetWithin little sheetBytes addressBytes littleBytes addressesIn lawfulFrom
 sheet-back = refl

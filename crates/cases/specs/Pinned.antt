@@ -25,7 +25,7 @@ use Rattle.lists.specs.Walk.{Trace, item, over, next, nextRaw, convertRaw, next
 use Rattle.coverage.specs.Covered.{source, rangeList, yieldedIn, yieldedOf, coverageOf}
 use Rattle.coverage.specs.Kept.{rangesOf, padded, keptAs, lawfulFrom, isLawful}
 use Rattle.coverage.specs.Ranges.{limit}
-use Rattle.coverage.specs.Told.{made}
+use Rattle.coverage.specs.Told.{made, placed, putting}
 use Rattle.sheets.specs.Sheet.{sheetKept}
 use Rattle.canonical.specs.Canonical.{canonicalOf, canonicalKept}
 use Rattle.coverage.specs.Output.{output, written}
@@ -110,6 +110,20 @@ written-fits = refl
 written-no-space : written (gives (0x07 ∷ 0x00 ∷ [])) (0x01 ∷ []) ≡ output (refused 11 []) (0x01 ∷ [])
 unfolding written
 written-no-space = refl
+
+-- runs are put at the front of what is lent, which may be longer than they are, and each of another length; into less they are
+-- refused with 11, and nothing is written
+runs-fit : putting (gives ((0x10, 0x20) ∷ [])) (0x01 ∷ []) (0x02 ∷ 0x03 ∷ []) ≡ placed (gives 1) (0x10 ∷ []) (0x20 ∷ 0x03 ∷ [])
+unfolding putting
+runs-fit = refl
+
+runs-no-space : putting (gives ((0x10, 0x20) ∷ [])) (0x01 ∷ []) [] ≡ placed (refused 11 []) (0x01 ∷ []) []
+unfolding putting
+runs-no-space = refl
+
+runs-none : putting (gives []) [] [] ≡ placed (gives 0) [] []
+unfolding putting
+runs-none = refl
 
 -- a coverage of one range counts it, has as many places as the limit and is 0 past it; that of a refused list counts none
 abbrev one : Coverage

@@ -20,13 +20,24 @@ pub record Checked (bs es : List ℕ) (n i last : ℕ) : Type 0 where
   pub next : 0 < i → lo ≡ suc last
   pub same : lawfulFrom 0 (firsts n bs es) ≡ lawfulFrom lo (drop i (firsts n bs es))
   pub within : i ≤ n
-  pub few : n ≤ limit
-  pub lb : length bs ≡ limit
-  pub le : length es ≡ limit
+  pub room : ℕ
+  pub few : n ≤ room
+  pub lb : length bs ≡ room
+  pub le : length es ≡ room
 
-pub checked-start : {bs es : List ℕ} {n : ℕ} → n ≤ limit → length bs ≡ limit → length es ≡ limit → Checked bs es n 0 0
-checked-start h k l =
-    record { lo = 0; start = λ _. refl; next = λ h. absurd (omega arith); same = refl; within = omega arith; few = h; lb = k; le = l }
+pub checked-start : {bs es : List ℕ} {n room : ℕ} → n ≤ room → length bs ≡ room → length es ≡ room → Checked bs es n 0 0
+checked-start {bs} {es} {n} {room} h k l =
+    record {
+      lo = 0;
+      start = λ _. refl;
+      next = λ h. absurd (omega arith);
+      same = refl;
+      within = omega arith;
+      room = room;
+      few = h;
+      lb = k;
+      le = l;
+    }
 
 module _ {bs es : List ℕ} {n i last : ℕ} (t : Checked bs es n i last) where
   rest : List Range
@@ -46,6 +57,7 @@ module _ {bs es : List ℕ} {n i last : ℕ} (t : Checked bs es n i last) where
         next = λ e. refl;
         same = at-first w ∙ lawful-first (t .lo) (getD bs i 0, getD es i 0) rest low h k;
         within = omega arith;
+        room = t .room;
         few = t .few;
         lb = t .lb;
         le = t .le;

@@ -1,5 +1,5 @@
--- Ranges gathered at the front of two arrays, a call of the walk at a time, the coverage that they make, with more room too, and
--- their places in a caller's arrays. Assumes nothing.
+-- Ranges gathered at the front of two arrays, a call of the walk at a time, and the coverage that they make, with more room too.
+-- Assumes nothing.
 use mathlib.Core.Path.{_≡_, refl, sym, ap, ap₂, subst, _∙_}
 use mathlib.Core.Bool.{Bool, true, false}
 use mathlib.Core.List.{List, [], _∷_, _++_, append-assoc, append-nil}
@@ -7,11 +7,10 @@ use mathlib.Core.Logic.{_↔_, inl, inr, ⊎-elim}
 use Prim.Native.Nat.{ℕ, zero, suc, _+_, _-_, _≤_, _<_}
 use native.Mathlib.Numerals.{add-one}
 use native.Mathlib.Omega.{arith}
-use lib.ListN.{length, take, getD, set, replicate, length-take, length-append, length-set, length-replicate}
-use lib.Seq.{take-suc, take-suc-set}
-use lib.Dec.{leb}
+use lib.ListN.{length, take, set, length-take, length-append, length-set}
+use lib.Seq.{take-suc-set}
 use borrow.Author.Tests.{lt-ltb, le-ltb}
-use Rattle.bytes.specs.Read.{Result, gives, refused, pick}
+use Rattle.bytes.specs.Read.{Result, gives, refused}
 use Rattle.bytes.specs.Error.{number, values, refusal}
 use Rattle.bytes.specs.Reader.{isSize}
 use Rattle.bytes.specs.declared.common.DebugAddrBase.{DebugAddrBase}
@@ -34,18 +33,17 @@ use Rattle.lists.proofs.Past.{listed-past}
 use Rattle.lists.proofs.CallLaws.{next-ahead}
 use Rattle.coverage.specs.Ranges.{Range, Covers, Apart, limit, runs}
 use Rattle.coverage.specs.Covered.{yieldedIn, Holds, rangeList, locationList, holding, Source, source, listing, traceOf, coverageOf, Bytes}
-use Rattle.coverage.specs.Kept.{paired, firsts, begins, ends, padded, keptAs}
+use Rattle.coverage.specs.Kept.{paired, firsts, ends}
 use Rattle.coverage.specs.Gathered.{short, Stored, Within, all, full, inFront, within, nonempty, covering, coverageWithin, listFrom, orTooMany, toldGathered}
 use Rattle.coverage.specs.Sorted.{Sized, AtLeast, Copied, ToRuns}
-use Rattle.coverage.specs.Told.{made, Placed, placed, placing, byCount}
 use Rattle.coverage.specs.declared.collect.Gathered.{Gathered}
 use Rattle.coverage.specs.declared.collect.Gathered.the-variants as gathered
 use Rattle.coverage.proofs.CallLaws.{after, after-none, coverage-refused, coverage-opened}
 use Rattle.coverage.proofs.Small.{Small}
 use Rattle.coverage.proofs.RangeLaws.{Proper, unique, runs-apart, runs-cover, runs-length}
 use Rattle.coverage.proofs.CoveredLaws.{mapped, Given, onward-given, walked-small, small-proper}
-use Rattle.coverage.proofs.SortLaws.{above-set, length-first}
-use Rattle.coverage.proofs.KeptLaws.{take-paired, begins-paired, ends-paired}
+use Rattle.coverage.proofs.SortLaws.{length-first}
+use Rattle.coverage.proofs.KeptLaws.{take-paired}
 
 paired-snoc : (bs es : List ℕ) (b e : ℕ) → length bs ≡ length es → paired (bs ++ (b ∷ [])) (es ++ (e ∷ [])) ≡ paired bs es ++ ((b, e) ∷ [])
 paired-snoc [] [] b e h = refl
@@ -506,101 +504,6 @@ firsts-copied n bs es xs ys h k c d =
     take-paired n xs ys
     ∙ ap₂ paired (take-copied n bs xs (h .0) (k .0) c) (take-copied n es ys (h .1) (k .1) d)
     ∙ sym (take-paired n bs es)
-
--- ---- places in a caller's arrays: numbers, and 0 past them
-abbrev Zeros : List ℕ → ℕ → Type 0
-Zeros a n = (p : ℕ) → n ≤ p → getD a p 0 ≡ 0
-
-zero-past : (n p : ℕ) → _≡_ {A = ℕ} (getD (replicate n 0) p 0) 0
-zero-past zero p = refl
-zero-past (suc n) zero = refl
-zero-past (suc n) (suc p) = zero-past n p
-
--- all that stands from a place on is 0
-zeros-tail : (a : List ℕ) (i : ℕ) → Zeros a i → a ≡ take i a ++ replicate (length a - i) 0
-zeros-tail [] zero z = refl
-zeros-tail [] (suc i) z =
-    let e : 0 - suc i ≡ 0 = omega arith in
-    ap (λ (k : ℕ). replicate {A = ℕ} k 0) (sym e)
-zeros-tail (x ∷ a) zero z =
-    let e : x ≡ 0 = z 0 (omega arith) in
-    let f = zeros-tail a 0 (λ p h. z (suc p) (omega arith)) in
-    let u : length a - 0 ≡ length a = omega arith in
-    let v : suc (length a) ≡ suc (length a) - 0 = omega arith in
-    ap (λ (l : List ℕ). x ∷ l) f
-    ∙ ap (λ (k : ℕ). x ∷ replicate {A = ℕ} k 0) u
-    ∙ ap (λ (y : ℕ). y ∷ replicate {A = ℕ} (length a) 0) e
-    ∙ ap (λ (k : ℕ). replicate {A = ℕ} k 0) v
-zeros-tail (x ∷ a) (suc i) z =
-    let e : length a - i ≡ suc (length a) - suc i = omega arith in
-    ap (λ (l : List ℕ). x ∷ l) (zeros-tail a i (λ p h. z (suc p) (omega arith)))
-    ∙ ap (λ (k : ℕ). x ∷ (take i a ++ replicate k 0)) e
-
--- the first i numbers are kept, and 0 stands past them
-pub record Keeping (from : List ℕ) (n : ℕ) (to : List ℕ) (i : ℕ) : Type 0 where
-  pub same : take i to ≡ take i from
-  pub rest : Zeros to i
-  pub sized : length to ≡ limit
-  pub within : i ≤ n
-  pub few : (n ≤ length from) × (n ≤ limit)
-
-pub keeping-none : {from : List ℕ} {n : ℕ} → (n ≤ length from) × (n ≤ limit) → Keeping from n (replicate limit 0) 0
-keeping-none h = record { same = refl; rest = λ p l. zero-past limit p; sized = length-replicate {A = ℕ} limit 0; within = omega arith; few = h }
-
-module _ {from : List ℕ} {n : ℕ} {to : List ℕ} {i : ℕ} (t : Keeping from n to i) where
-  pub keeping-more : i < n → Keeping from n (set to i (getD from i 0)) (i + 1)
-  keeping-more h =
-      record {
-        same =
-            rw (add-one i) (take-suc-set to i (getD from i 0) (omega (arith, t .few, t .sized)))
-            ∙ ap (λ (l : List ℕ). l ++ (getD from i 0 ∷ [])) (t .same)
-            ∙ (rw (add-one i) (sym (take-suc from i 0 (omega (arith, t .few)))));
-        rest = λ p l. above-set to i (getD from i 0) p (omega arith) ∙ t .rest p (omega arith);
-        sized = length-set to i (getD from i 0) ∙ t .sized;
-        within = omega arith;
-        few = t .few;
-      }
-
-  pub keeping-done : n ≤ i → to ≡ padded (take n from)
-  unfolding padded
-  keeping-done h =
-      let e : i ≡ n = omega (arith, t .within) in
-      let z : length to - i ≡ limit - length (take n from) = rw length-take (omega (arith, t .sized, t .few)) in
-      zeros-tail to i (t .rest)
-      ∙ ap₂ (λ (l : List ℕ) (k : ℕ). l ++ replicate k 0) (t .same ∙ ap (λ (k : ℕ). take k from) e) z
-
-module _ (bs es : List ℕ) (n room : ℕ) {xs ys : List ℕ} (h : n ≤ room) (s : Sized room bs es) (p : xs ≡ padded (take n bs)) (q : ys ≡ padded (take n es)) where
-  -- two arrays of which the first n places are kept hold the coverage that keeps the ranges there
-  kept-begins : xs ≡ keptAs (firsts n bs es) .begins
-  unfolding keptAs
-  kept-begins =
-      let k : length (take n bs) ≡ length (take n es) = omega (arith, length-take n bs, length-take n es, s .0, s .1) in
-      p ∙ ap padded (sym (ap begins (take-paired n bs es) ∙ begins-paired (take n bs) (take n es) k))
-
-  kept-ends : ys ≡ keptAs (firsts n bs es) .ends
-  unfolding keptAs
-  kept-ends =
-      let k : length (take n bs) ≡ length (take n es) = omega (arith, length-take n bs, length-take n es, s .0, s .1) in
-      q ∙ ap padded (sym (ap ends (take-paired n bs es) ∙ ends-paired (take n bs) (take n es) k))
-
-  pub place-got : (c : Result (List Range)) (xs₀ ys₀ : List ℕ) → c ≡ gives (firsts n bs es) → placed (gives n) xs ys ≡ placing c xs₀ ys₀
-  place-got c xs₀ ys₀ e =
-      let l = length-first bs es n (omega (arith, s .0)) (omega (arith, s .1)) in
-      rw e
-      (ap (λ (m : ℕ). placed (gives m) xs ys) (sym l)
-      ∙ ap₂ (λ (a z : List ℕ). placed (gives (length (firsts n bs es))) a z) kept-begins kept-ends)
-
-pub place-refused : (c : Result (List Range)) (xs₀ ys₀ : List ℕ) (e : Error) → c ≡ refusal e → placed (refusal e) xs₀ ys₀ ≡ placing c xs₀ ys₀
-place-refused c xs₀ ys₀ e q = rw q
-
--- a coverage by value of what was put into two arrays of zeros
-placed-made : (c : Result (List Range)) {r : Result ℕ} {xs ys : List ℕ} → placed r xs ys ≡ placing c (replicate limit 0) (replicate limit 0) → byCount r xs ys ≡ made c
-unfolding keptAs padded
-placed-made (gives rs) e = ap (λ (p : Placed). byCount (p .answer) (p .begins) (p .ends)) e
-placed-made (refused n vs) e = ap (λ (p : Placed). byCount (p .answer) (p .begins) (p .ends)) e
-
-pub placed-coverage : (x : Source) {r : Result ℕ} {xs ys : List ℕ} → placed r xs ys ≡ placing (coverageOf x) (replicate limit 0) (replicate limit 0) → byCount r xs ys ≡ made (coverageOf x)
-placed-coverage x e = placed-made (coverageOf x) e
 
 -- how often a call calls itself
 abbrev pub turns : Bool → ℕ

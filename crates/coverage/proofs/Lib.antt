@@ -7,4 +7,6 @@ pub mod KeptLaws
 pub mod OutputLaws
 pub mod CallLaws
 pub mod GatherLaws
+pub mod PlaceLaws
+pub mod RaisedLaws
 pub mod Checked

@@ -25,6 +25,10 @@ ends rs = map (λ (r : Range). r .1) rs
 abbrev pub firsts : ℕ → List ℕ → List ℕ → List Range
 firsts n bs es = take n (paired bs es)
 
+-- a coverage from its count and its two arrays
+abbrev pub counted : ℕ → List ℕ → List ℕ → Coverage
+counted n bs es = record { n = n; begins = bs; ends = es }
+
 -- the ranges of a coverage: as many as it counts; places past the count are not read (docs/SCOPE.md, "Coverage")
 unfoldable pub rangesOf : Coverage → List Range
 rangesOf c = firsts (c .n) (c .begins) (c .ends)
@@ -35,7 +39,7 @@ padded l = l ++ replicate (limit - length l) 0
 
 -- the coverage that keeps ranges: their count, begins and ends, 0 past the count (docs/SCOPE.md, "Coverage")
 unfoldable pub keptAs : List Range → Coverage
-keptAs rs = record { n = length rs; begins = padded (begins rs); ends = padded (ends rs) }
+keptAs rs = counted (length rs) (padded (begins rs)) (padded (ends rs))
 
 -- whether the first begin is at least lo and each later one above the end before, and each is below its end and below
 -- the tombstone bound of 64 bits (docs/SCOPE.md, refusal 12)

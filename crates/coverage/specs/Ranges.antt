@@ -11,7 +11,7 @@ Range = ℕ × ℕ
 
 -- how many ranges a list may yield, and a coverage keep (docs/SCOPE.md, "Coverage" and refusal 10)
 abbrev pub limit : ℕ
-limit = 1024
+limit = 3000
 
 -- an address inside a range: begin ≤ address < end (docs/SCOPE.md, "Coverage")
 abbrev pub Inside : Range → ℕ → Type 0

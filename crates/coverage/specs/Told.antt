@@ -1,12 +1,14 @@
 -- The answers of the calls over coverages, told by the numbers of refusals.
-use mathlib.Core.List.{List, []}
+use mathlib.Core.Bool.{_&&_}
+use mathlib.Core.List.{List, [], _++_}
 use Prim.Native.Nat.{ℕ}
-use lib.ListN.{length}
-use Rattle.bytes.specs.Read.{Result, gives, refused}
+use lib.Dec.{leb}
+use lib.ListN.{length, drop}
+use Rattle.bytes.specs.Read.{Result, gives, refused, pick}
 use Rattle.bytes.specs.Error.{refusal}
-use Rattle.bytes.specs.declared.error.Error.the-variants.{TooManyRanges}
+use Rattle.bytes.specs.declared.error.Error.the-variants.{TooManyRanges, NoSpace}
 use Rattle.coverage.specs.Ranges.{Range}
-use Rattle.coverage.specs.Kept.{keptAs}
+use Rattle.coverage.specs.Kept.{begins, ends, counted, keptAs}
 use Rattle.coverage.specs.declared.Coverage.{Coverage}
 use Rattle.coverage.specs.declared.Made.{Made}
 use Rattle.coverage.specs.declared.Verdict.{Verdict}
@@ -61,7 +63,16 @@ abbrev pub placing : Result (List Range) → List ℕ → List ℕ → Placed
 placing (gives rs) bs es = placed (gives (length rs)) (keptAs rs .begins) (keptAs rs .ends)
 placing (refused n vs) bs es = placed (refused n vs) bs es
 
+-- the ranges given, put at the front of two slices that a caller lends; refusal 11 comes last, and refused calls write nothing
+-- (docs/SCOPE.md, "Refusals")
+unfoldable pub putting : Result (List Range) → List ℕ → List ℕ → Placed
+putting (refused n vs) bs es = placed (refused n vs) bs es
+putting (gives rs) bs es =
+    pick (leb (length rs) (length bs) && leb (length rs) (length es))
+    (placed (gives (length rs)) (begins rs ++ drop (length rs) bs) (ends rs ++ drop (length rs) es))
+    (placed (refusal NoSpace) bs es)
+
 -- a coverage by value of what was put into two arrays
 abbrev pub byCount : Result ℕ → List ℕ → List ℕ → Answer
-byCount (gives n) bs es = answer (gives tt) (record { n = n; begins = bs; ends = es })
-byCount (refused n vs) bs es = answer (refused n vs) (record { n = 0; begins = bs; ends = es })
+byCount (gives n) bs es = answer (gives tt) (counted n bs es)
+byCount (refused n vs) bs es = answer (refused n vs) (counted 0 bs es)

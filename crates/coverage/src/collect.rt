@@ -230,7 +230,7 @@ pub fn cover_long(
 }
 
 // A coverage by value of what was put into two arrays of zeros.
-fn by_count(collected: Collected, begins: [u64; LIMIT], ends: [u64; LIMIT]) -> Made
+pub fn by_count(collected: Collected, begins: [u64; LIMIT], ends: [u64; LIMIT]) -> Made
     ensures { λ r. ⌜ toldMade r ≡ byCount (toldCount collected) begins ends ⌝ }
 {
     match collected {

@@ -7,7 +7,7 @@ pub mod sort;
 use bytes::error::Error;
 
 // How many ranges a list may yield, and a coverage keep.
-pub const LIMIT: usize = 1024;
+pub const LIMIT: usize = 3000;
 // How many ranges are gathered first in arrays of their own: nearly all lists yield no more.
 pub const SHORT: usize = 32;
 

@@ -1,4 +1,6 @@
-// A coverage put into two arrays that a caller lends: written whole, 0 past the count. A refusal leaves them as they were.
+// A coverage put into what a caller lends: its ranges at the front of two slices, whatever their length, the other places as
+// they were; or two arrays of as many places as it may keep ranges, written whole, 0 past the count. A refusal leaves them as
+// they were.
 use super::LIMIT;
 use super::ListsOffset;
 use super::SHORT;
@@ -13,44 +15,40 @@ use bytes::common::Format;
 use bytes::common::LocationListsOffset;
 use bytes::common::RangeListsOffset;
 use bytes::endianity::RunTimeEndian;
+use bytes::error::Error;
 ghost use mathlib.Core.Path.{_≡_};
 ghost use mathlib.Core.List.{[]};
 ghost use Prim.Native.Nat.{_-_, _≤_};
 ghost use lib.ListN.{length, take};
 ghost use Rattle.bytes.specs.Common.{isSplit};
+ghost use Rattle.bytes.specs.Read.{gives};
 ghost use Rattle.bytes.specs.declared.common.Format.the-variants.{Dwarf32};
 ghost use Rattle.coverage.specs.Ranges.{limit};
 ghost use Rattle.coverage.specs.Covered.{rangeList, locationList, holding, source, coverageOf, readBack};
 ghost use Rattle.coverage.specs.Kept.{firsts, padded};
 ghost use Rattle.coverage.specs.Gathered.{short, coverageWithin, orTooMany};
 ghost use Rattle.coverage.specs.Sorted.{AtLeast};
-ghost use Rattle.coverage.specs.Told.{placed, toldCount, placing};
+ghost use Rattle.coverage.specs.Told.{placed, toldCount, placing, putting};
 
-// The first n numbers, and 0 past them.
-fn keep(from: &[u64], n: usize, to: &mut [u64; LIMIT])
-    requires { ⌜ (n ≤ length (now from)) × (n ≤ limit) ⌝ }
-    ensures { λ _. ⌜ now (to .exit) ≡ padded (take n (now (from .entry))) ⌝ }
+// The first n ranges, put at the front of what a caller lends; where that is shorter, 11.
+fn put_front(n: usize, bs: &[u64], es: &[u64], begins: &mut [u64], ends: &mut [u64]) -> Collected
+    requires { ⌜ AtLeast n (now bs) (now es) ⌝ }
+    ensures { λ r. ⌜ placed (toldCount r) (now (begins .exit)) (now (ends .exit)) ≡ putting (gives (firsts n (now (bs .entry)) (now (es .entry)))) (now (begins .entry)) (now (ends .entry)) ⌝ }
 {
-    *to = [0u64; LIMIT];
-    let mut i: usize = 0;
-    while i < n {
-        to[i] = from[i];
-        i += 1;
+    if begins.len() < n {
+        return Collected::Refused(Error::NoSpace);
     }
+    if ends.len() < n {
+        return Collected::Refused(Error::NoSpace);
+    }
+    super::sort::copy(bs, begins, 0, n);
+    super::sort::copy(es, ends, 0, n);
+    Collected::Got(n)
 }
 
-// The first n ranges, put into a caller's arrays.
-fn place(n: usize, bs: &[u64], es: &[u64], begins: &mut [u64; LIMIT], ends: &mut [u64; LIMIT])
-    requires { ⌜ AtLeast n (now bs) (now es) × (n ≤ limit) ⌝ }
-    ensures { λ _. ⌜ (now (begins .exit) ≡ padded (take n (now (bs .entry)))) × (now (ends .exit) ≡ padded (take n (now (es .entry)))) ⌝ }
-{
-    keep(bs, n, begins);
-    keep(es, n, ends);
-}
-
-// The coverage of a list that yields more ranges than short arrays have room for: the ranges there, and those from an offset on.
+// The runs of a list that yields more ranges than short arrays have room for: the ranges there, and those from an offset on.
 // It calls itself once, so that it stays a call: its arrays would else be made room for wherever a list is covered.
-fn place_long(
+fn runs_long(
     again: bool,
     section: &[u8],
     debug_addr: &[u8],
@@ -63,13 +61,13 @@ fn place_long(
     split: bool,
     first_begins: &[u64; SHORT],
     first_ends: &[u64; SHORT],
-    begins: &mut [u64; LIMIT],
-    ends: &mut [u64; LIMIT],
+    begins: &mut [u64],
+    ends: &mut [u64],
 ) -> Collected
-    ensures { λ r. ⌜ placed (toldCount r) (now (begins .exit)) (now (ends .exit)) ≡ placing (orTooMany (coverageWithin (firsts short (now («first_begins» .entry)) (now («first_ends» .entry))) (limit - short) (source (holding locations split) encoding endian (now (section .entry)) (offset .0) «base_address» (now («debug_addr» .entry)) «debug_addr_base»))) (now (begins .entry)) (now (ends .entry)) ⌝ }
+    ensures { λ r. ⌜ placed (toldCount r) (now (begins .exit)) (now (ends .exit)) ≡ putting (orTooMany (coverageWithin (firsts short (now («first_begins» .entry)) (now («first_ends» .entry))) (limit - short) (source (holding locations split) encoding endian (now (section .entry)) (offset .0) «base_address» (now («debug_addr» .entry)) «debug_addr_base»))) (now (begins .entry)) (now (ends .entry)) ⌝ }
 {
     if again {
-        return place_long(
+        return runs_long(
             false,
             section,
             debug_addr,
@@ -103,17 +101,14 @@ fn place_long(
         &mut bs,
         &mut es,
     ) {
-        Gathered::All(n) => {
-            place(n, &bs, &es, begins, ends);
-            Collected::Got(n)
-        }
+        Gathered::All(n) => put_front(n, &bs, &es, begins, ends),
         Gathered::Full(_) => Collected::Full,
         Gathered::Refused(e) => Collected::Refused(e),
     }
 }
 
-// The coverage of the list at an offset, gathered in short arrays first.
-fn place_list(
+// The runs of the list at an offset, gathered in short arrays first.
+fn runs_list(
     section: &[u8],
     debug_addr: &[u8],
     debug_addr_base: DebugAddrBase,
@@ -123,10 +118,10 @@ fn place_list(
     endian: RunTimeEndian,
     locations: bool,
     split: bool,
-    begins: &mut [u64; LIMIT],
-    ends: &mut [u64; LIMIT],
+    begins: &mut [u64],
+    ends: &mut [u64],
 ) -> Collected
-    ensures { λ r. ⌜ placed (toldCount r) (now (begins .exit)) (now (ends .exit)) ≡ placing (coverageOf (source (holding locations split) encoding endian (now (section .entry)) (offset .0) «base_address» (now («debug_addr» .entry)) «debug_addr_base»)) (now (begins .entry)) (now (ends .entry)) ⌝ }
+    ensures { λ r. ⌜ placed (toldCount r) (now (begins .exit)) (now (ends .exit)) ≡ putting (coverageOf (source (holding locations split) encoding endian (now (section .entry)) (offset .0) «base_address» (now («debug_addr» .entry)) «debug_addr_base»)) (now (begins .entry)) (now (ends .entry)) ⌝ }
 {
     let mut bs = [0u64; SHORT];
     let mut es = [0u64; SHORT];
@@ -143,11 +138,8 @@ fn place_list(
         &mut bs,
         &mut es,
     ) {
-        Gathered::All(n) => {
-            place(n, &bs, &es, begins, ends);
-            Collected::Got(n)
-        }
-        Gathered::Full(walk) => place_long(
+        Gathered::All(n) => put_front(n, &bs, &es, begins, ends),
+        Gathered::Full(walk) => runs_long(
             true,
             section,
             debug_addr,
@@ -165,6 +157,118 @@ fn place_list(
         ),
         Gathered::Refused(e) => Collected::Refused(e),
     }
+}
+
+// 0 at the places past the first n.
+fn clear_past(n: usize, to: &mut [u64])
+    requires { ⌜ (n ≤ limit) × (length (now to) ≡ limit) ⌝ }
+    ensures { λ _. ⌜ now (to .exit) ≡ padded (take n (now (to .entry))) ⌝ }
+{
+    let mut i = n;
+    while i < LIMIT {
+        to[i] = 0;
+        i += 1;
+    }
+}
+
+// The coverage of the list at an offset, in two arrays written whole.
+fn place_list(
+    section: &[u8],
+    debug_addr: &[u8],
+    debug_addr_base: DebugAddrBase,
+    offset: ListsOffset,
+    base_address: u64,
+    encoding: Encoding,
+    endian: RunTimeEndian,
+    locations: bool,
+    split: bool,
+    begins: &mut [u64; LIMIT],
+    ends: &mut [u64; LIMIT],
+) -> Collected
+    ensures { λ r. ⌜ placed (toldCount r) (now (begins .exit)) (now (ends .exit)) ≡ placing (coverageOf (source (holding locations split) encoding endian (now (section .entry)) (offset .0) «base_address» (now («debug_addr» .entry)) «debug_addr_base»)) (now (begins .entry)) (now (ends .entry)) ⌝ }
+{
+    match runs_list(
+        section,
+        debug_addr,
+        debug_addr_base,
+        offset,
+        base_address,
+        encoding,
+        endian,
+        locations,
+        split,
+        begins,
+        ends,
+    ) {
+        Collected::Got(n) => {
+            clear_past(n, begins);
+            clear_past(n, ends);
+            Collected::Got(n)
+        }
+        Collected::Full => Collected::Full,
+        Collected::Refused(e) => Collected::Refused(e),
+    }
+}
+
+// The ranges of the coverage of the range list at an offset, at the front of two slices, and how many they are: the refusals of
+// opening, then the first of a walk's refusal and 10, then 11.
+pub fn runs_of_ranges(
+    section: &[u8],
+    debug_addr: &[u8],
+    debug_addr_base: DebugAddrBase,
+    offset: RangeListsOffset,
+    base_address: u64,
+    encoding: Encoding,
+    endian: RunTimeEndian,
+    begins: &mut [u64],
+    ends: &mut [u64],
+) -> Collected
+    ensures { λ r. ⌜ placed (toldCount r) (now (begins .exit)) (now (ends .exit)) ≡ putting (coverageOf (source rangeList encoding endian (now (section .entry)) (offset .0) «base_address» (now («debug_addr» .entry)) «debug_addr_base»)) (now (begins .entry)) (now (ends .entry)) ⌝ }
+{
+    runs_list(
+        section,
+        debug_addr,
+        debug_addr_base,
+        ListsOffset(offset.0),
+        base_address,
+        encoding,
+        endian,
+        false,
+        false,
+        begins,
+        ends,
+    )
+}
+
+// The same of the location list at an offset, plain or split.
+pub fn runs_of_locations(
+    section: &[u8],
+    debug_addr: &[u8],
+    debug_addr_base: DebugAddrBase,
+    offset: LocationListsOffset,
+    base_address: u64,
+    encoding: Encoding,
+    endian: RunTimeEndian,
+    file_type: DwarfFileType,
+    begins: &mut [u64],
+    ends: &mut [u64],
+) -> Collected
+    ensures { λ r. ⌜ placed (toldCount r) (now (begins .exit)) (now (ends .exit)) ≡ putting (coverageOf (source (locationList (isSplit «file_type»)) encoding endian (now (section .entry)) (offset .0) «base_address» (now («debug_addr» .entry)) «debug_addr_base»)) (now (begins .entry)) (now (ends .entry)) ⌝ }
+{
+    let split = file_type.is_split();
+    runs_list(
+        section,
+        debug_addr,
+        debug_addr_base,
+        ListsOffset(offset.0),
+        base_address,
+        encoding,
+        endian,
+        true,
+        split,
+        begins,
+        ends,
+    )
 }
 
 // The coverage of the range list at an offset, and how many ranges it has: the refusals of opening, then the first of a walk's

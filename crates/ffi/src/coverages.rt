@@ -1,5 +1,4 @@
 // Coverages, sheets and canonical lists.
-use coverage::Coverage;
 use ffi_words::coverages::Places;
 use ffi_words::coverages::YzCount;
 ghost use mathlib.Core.Bool.{true};
@@ -8,10 +7,11 @@ ghost use mathlib.Core.Path.{_≡_};
 ghost use Rattle.canonical.specs.Canonical.{canonicalKept};
 ghost use Rattle.canonical.specs.Form.{CanonicalForm};
 ghost use Rattle.sheets.specs.Sheet.{sheetKept, sheetRanges};
+ghost use Rattle.coverage.specs.Kept.{counted};
 ghost use Rattle.coverage.specs.Output.{written};
 ghost use Rattle.coverage.specs.Told.{placing};
 ghost use Rattle.ffi_words.specs.Common.{left};
-ghost use Rattle.ffi_words.specs.Coverages.{handed, placedTold, handedCoverage, outputLeft};
+ghost use Rattle.ffi_words.specs.Coverages.{handed, placedTold, outputLeft};
 
 // 12 where the bytes are no sheet.
 #[no_mangle]
@@ -22,35 +22,25 @@ pub extern "C" fn yz_coverage_from_sheet(
 ) -> YzCount
     ensures { λ r. ⌜ handed r (now (begins .exit)) (now (ends .exit)) ≡ placedTold (placing (sheetRanges (now (sheet .entry))) (now (begins .entry)) (now (ends .entry))) ⌝ }
 {
-    let made = sheets::from_sheet(sheet);
-    ffi_words::coverages::hand_out(made, begins, ends)
+    let r = sheets::place_sheet(sheet, begins, ends);
+    ffi_words::coverages::count_placed(r)
 }
 
 // 12 where the first n places make no lawful sheet, or n is above the limit; then 11.
 #[no_mangle]
 pub extern "C" fn yz_sheet(n: u64, begins: &Places, ends: &Places, output: &mut [u8]) -> YzCount
-    ensures { λ r. ⌜ left r (now (output .exit)) ≡ outputLeft (written (sheetKept (handedCoverage n (now (begins .entry)) (now (ends .entry)))) (now (output .entry))) ⌝ }
+    ensures { λ r. ⌜ left r (now (output .exit)) ≡ outputLeft (written (sheetKept (counted n (now (begins .entry)) (now (ends .entry)))) (now (output .entry))) ⌝ }
 {
-    let coverage = Coverage {
-        n: n as usize,
-        begins: *begins,
-        ends: *ends,
-    };
-    let r = sheets::sheet(coverage, output);
+    let r = sheets::sheet_of(n as usize, begins, ends, output);
     ffi_words::coverages::count_written(r)
 }
 
 // Refused as a sheet is.
 #[no_mangle]
 pub extern "C" fn yz_canonical(n: u64, begins: &Places, ends: &Places, output: &mut [u8]) -> YzCount
-    ensures { λ r. ⌜ left r (now (output .exit)) ≡ outputLeft (written (canonicalKept (handedCoverage n (now (begins .entry)) (now (ends .entry)))) (now (output .entry))) ⌝ }
+    ensures { λ r. ⌜ left r (now (output .exit)) ≡ outputLeft (written (canonicalKept (counted n (now (begins .entry)) (now (ends .entry)))) (now (output .entry))) ⌝ }
 {
-    let coverage = Coverage {
-        n: n as usize,
-        begins: *begins,
-        ends: *ends,
-    };
-    let r = canonical::canonical(coverage, output);
+    let r = canonical::canonical_of(n as usize, begins, ends, output);
     ffi_words::coverages::count_written(r)
 }
 

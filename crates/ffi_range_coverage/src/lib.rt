@@ -1,4 +1,4 @@
-// Coverage and canonical list of a range list, and the coverage that a canonical list tells.
+// Coverage, its runs alone, and canonical list of a range list, and the coverage that a canonical list tells.
 use bytes::common::DebugAddrBase;
 use bytes::common::RangeListsOffset;
 use ffi_words::common::YzEncoding;
@@ -10,7 +10,7 @@ ghost use Rattle.bytes.specs.declared.common.Format.the-variants.{Dwarf32};
 ghost use Rattle.coverage.specs.Covered.{rangeList, source, coverageOf, readBack};
 ghost use Rattle.canonical.specs.Canonical.{canonicalOf};
 ghost use Rattle.coverage.specs.Output.{written};
-ghost use Rattle.coverage.specs.Told.{placing};
+ghost use Rattle.coverage.specs.Told.{placing, putting};
 ghost use Rattle.ffi_words.specs.Common.{endianIn, encodingOf, left};
 ghost use Rattle.ffi_words.specs.Coverages.{handed, placedTold, outputLeft};
 
@@ -31,6 +31,36 @@ pub extern "C" fn yz_range_coverage(
     let unit = ffi_words::common::encoding_of(encoding);
     let endian = ffi_words::common::endian_in(encoding);
     let r = coverage::place::place_ranges(
+        section,
+        debug_addr,
+        DebugAddrBase(debug_addr_base),
+        RangeListsOffset(offset),
+        base_address,
+        unit,
+        endian,
+        begins,
+        ends,
+    );
+    ffi_words::coverages::count_placed(r)
+}
+
+// The refusals of the coverage, then 11.
+#[no_mangle]
+pub extern "C" fn yz_range_runs(
+    section: &[u8],
+    debug_addr: &[u8],
+    debug_addr_base: u64,
+    encoding: YzEncoding,
+    offset: u64,
+    base_address: u64,
+    begins: &mut [u64],
+    ends: &mut [u64],
+) -> YzCount
+    ensures { λ r. ⌜ handed r (now (begins .exit)) (now (ends .exit)) ≡ placedTold (putting (coverageOf (source rangeList (encodingOf encoding) (endianIn encoding) (now (section .entry)) offset «base_address» (now («debug_addr» .entry)) (record { 0 = «debug_addr_base» }))) (now (begins .entry)) (now (ends .entry))) ⌝ }
+{
+    let unit = ffi_words::common::encoding_of(encoding);
+    let endian = ffi_words::common::endian_in(encoding);
+    let r = coverage::place::runs_of_ranges(
         section,
         debug_addr,
         DebugAddrBase(debug_addr_base),

@@ -3,8 +3,7 @@ use Prim.Native.Nat.{ℕ}
 use mathlib.Core.List.{List}
 use Rattle.bytes.specs.Read.{Result, gives, refused}
 use Rattle.coverage.specs.Output.{Output}
-use Rattle.coverage.specs.Told.{Answer, Placed}
-use Rattle.coverage.specs.declared.Coverage.{Coverage}
+use Rattle.coverage.specs.Told.{Placed}
 use Rattle.ffi_words.specs.Common.{done, refusedBy, Left, left}
 use Rattle.ffi_words.specs.declared.common.YzDone.{YzDone}
 use Rattle.ffi_words.specs.declared.coverages.YzCount.{YzCount}
@@ -23,18 +22,6 @@ pub record Handed : Type 0 where
 
 abbrev pub handed : YzCount → List ℕ → List ℕ → Handed
 handed a bs es = record { answer = a; begins = bs; ends = es }
-
--- a coverage by value handed out: how many ranges, and both arrays whole; a refusal leaves them as they were
-abbrev pub byVerdict : Result Unit → Coverage → List ℕ → List ℕ → Handed
-byVerdict (gives v) c bs es = handed (count done (c .n)) (c .begins) (c .ends)
-byVerdict (refused n vs) c bs es = handed (noCount (refusedBy n vs)) bs es
-
-abbrev pub handsOut : Answer → List ℕ → List ℕ → Handed
-handsOut a bs es = byVerdict (a .verdict) (a .coverage) bs es
-
--- the coverage that a caller hands in
-abbrev pub handedCoverage : ℕ → List ℕ → List ℕ → Coverage
-handedCoverage n bs es = record { n = n; begins = bs; ends = es }
 
 -- how many ranges or bytes were written, and the output then
 abbrev pub countWritten : Result ℕ → YzCount

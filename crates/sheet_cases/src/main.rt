@@ -22,8 +22,12 @@ fn main() {
     run(b"no_ranges");
     run(b"cut");
     run(b"trailing");
+    // A sheet of 1,024 ranges, once the limit, and one of 1,025, which was refused then.
+    run(b"stored");
+    run(b"stored_and_one");
     run(b"full");
     // One lawful range more than the limit, in as many bytes as they take: the count alone is refused.
     run(b"over");
+    // A full sheet, and more bytes behind it than the program has room for.
     run(b"long");
 }

@@ -12,14 +12,10 @@ use Rattle.coverage.specs.Ranges.{limit}
 use Rattle.coverage.specs.Kept.{padded}
 use Rattle.coverage.proofs.KeptLaws.{padded-is}
 use Rattle.sheets.specs.Sheet.{addressesIn}
+use Rattle.sheets.proofs.SheetLaws.{length-in}
 
 abbrev zeros : ℕ → List ℕ
 zeros k = replicate k 0
-
-pub length-in : (n : ℕ) (bs : List ℕ) → length (addressesIn n bs) ≡ n
-unfolding addressesIn
-length-in zero bs = refl
-length-in (suc n) bs = ap suc (length-in n (drop 8 bs))
 
 addresses-first : (n : ℕ) (bs : List ℕ) → addressesIn (suc n) bs ≡ little (take 8 bs) ∷ addressesIn n (drop 8 bs)
 unfolding addressesIn

@@ -9,8 +9,8 @@ use lib.Dec.{leb}
 use lib.ListN.{length, take, drop, getD, set, length-append, drop-of-length-le}
 use lib.Seq.{sets, length-sets, drop-cons, getD-take, length-take-le}
 use Rattle.bytes.specs.Read.{pick}
-use Rattle.coverage.specs.Ranges.{limit}
 use Rattle.coverage.specs.Kept.{paired, firsts}
+use Rattle.coverage.specs.Sorted.{AtLeast}
 use Rattle.bytes.specs.Written.{littleBytes}
 use Rattle.sheets.specs.Sheet.{addressBytes, sheetBytes, sheetLength}
 use Rattle.coverage.proofs.KeptLaws.{take-paired, length-paired, begins-paired, ends-paired}
@@ -29,17 +29,14 @@ pub record Putting (l₀ : List ℕ) (at n : ℕ) (xs l : List ℕ) (i p : ℕ) 
   pub within : i ≤ n
   pub long : length l ≡ length l₀
   pub room : at + 8 * n ≤ length l₀
-  pub few : n ≤ limit
-  pub all : length xs ≡ limit
+  pub few : n ≤ length xs
 
-pub putting-start : {l : List ℕ} {at n : ℕ} {xs : List ℕ}
-    → n ≤ limit → length xs ≡ limit → at + 8 * n ≤ length l → Putting l at n xs l 0 at
-putting-start h k r =
-    record { same = refl; place = omega arith; within = omega arith; long = refl; room = r; few = h; all = k }
+pub putting-start : {l : List ℕ} {at n : ℕ} {xs : List ℕ} → n ≤ length xs → at + 8 * n ≤ length l → Putting l at n xs l 0 at
+putting-start h r = record { same = refl; place = omega arith; within = omega arith; long = refl; room = r; few = h }
 
 module _ {l₀ : List ℕ} {at n : ℕ} {xs l : List ℕ} {i p : ℕ} (t : Putting l₀ at n xs l i p) where
   count : length (take n xs) ≡ n
-  count = length-take-le n xs (omega (arith, t .few, t .all))
+  count = length-take-le n xs (t .few)
 
   next-address : i < n → drop i (take n xs) ≡ getD xs i 0 ∷ drop (i + 1) (take n xs)
   next-address w =
@@ -57,7 +54,6 @@ module _ {l₀ : List ℕ} {at n : ℕ} {xs l : List ℕ} {i p : ℕ} (t : Putti
         long = ap length put ∙ length-sets l p (littleBytes 8 (getD xs i 0)) ∙ t .long;
         room = t .room;
         few = t .few;
-        all = t .all;
       }
     where
       put : l' ≡ sets l p (littleBytes 8 (getD xs i 0))
@@ -70,14 +66,13 @@ module _ {l₀ : List ℕ} {at n : ℕ} {xs l : List ℕ} {i p : ℕ} (t : Putti
   unfolding addressBytes
   putting-end h = rw (drop-of-length-le (take n xs) {i = i} (omega (arith, count))) at (t .same)
 
--- the first ranges are those of the first begins and ends
 -- a sheet's bytes: its head, then both rows of addresses
-module _ (bs es : List ℕ) (n : ℕ) (few : n ≤ limit) (lb : length bs ≡ limit) (le : length es ≡ limit) where
-  pub taken-begins : length (take n bs) ≡ n
-  taken-begins = length-take-le n bs (omega arith)
+module _ (bs es : List ℕ) (n : ℕ) (h : AtLeast n bs es) where
+  taken-begins : length (take n bs) ≡ n
+  taken-begins = length-take-le n bs (h .0)
 
-  pub taken-ends : length (take n es) ≡ n
-  taken-ends = length-take-le n es (omega arith)
+  taken-ends : length (take n es) ≡ n
+  taken-ends = length-take-le n es (h .1)
 
   head-spread : sheetBytes (firsts n bs es) ≡ n % 256 ∷ n / 256 % 256 ∷ 8 ∷ 0 ∷ (addressBytes (take n bs) ++ addressBytes (take n es))
   head-spread =

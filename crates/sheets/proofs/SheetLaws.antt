@@ -13,10 +13,10 @@ use Rattle.bytes.specs.Read.{gives, refused, pick}
 use Rattle.bytes.specs.Endianity.{little}
 use Rattle.bytes.specs.Error.{refusal}
 use Rattle.bytes.specs.declared.error.Error.the-variants.{BadSheet}
-use Rattle.coverage.specs.Ranges.{Range, limit}
+use Rattle.coverage.specs.Ranges.{Range, Apart, limit}
 use Rattle.coverage.specs.Kept.{paired, begins, ends, rangesOf, lawfulFrom, isLawful}
 use Rattle.bytes.specs.Written.{littleBytes}
-use Rattle.sheets.specs.Sheet.{addressBytes, sheetBytes, sheetKept, addressesIn, countIn, widthIn, rangesIn, isSheet, sheetRanges, sheetLength}
+use Rattle.sheets.specs.Sheet.{addressBytes, sheetBytes, sheetKept, addressesIn, countIn, widthIn, rangesIn, isSheetWithin, sheetRangesWithin, sheetRanges, sheetLength}
 use Rattle.coverage.specs.declared.Coverage.{Coverage}
 use Rattle.coverage.proofs.Small.{All, Small}
 use Rattle.bytes.proofs.Order.{lt-or-le}
@@ -55,9 +55,10 @@ pub sheet-spread : (rs : List Range) → sheetBytes rs ≡ length rs % 256 ∷ l
 unfolding sheetBytes
 sheet-spread rs = rw (little-pair (length rs), little-pair 8)
 
-module _ (rs : List Range) (l : Lawful rs) where
+-- the sheet of ranges whose count fits its two bytes
+module _ (rs : List Range) (apart : Apart rs) (small : Small rs) (few : length rs < 65536) where
   count-back : countIn (sheetBytes rs) ≡ length rs
-  count-back = ap countIn (sheet-spread rs) ∙ little-two (length rs % 256) (length rs / 256 % 256) ∙ (let h = l .few in omega arith)
+  count-back = ap countIn (sheet-spread rs) ∙ little-two (length rs % 256) (length rs / 256 % 256) ∙ omega arith
 
   width-back : widthIn (sheetBytes rs) ≡ 8
   width-back = ap widthIn (sheet-spread rs) ∙ little-two 8 0
@@ -71,7 +72,7 @@ module _ (rs : List Range) (l : Lawful rs) where
   begins-back =
       ap (λ (s : List ℕ). addressesIn (length rs) (drop 4 s)) (sheet-spread rs)
       ∙ ap (λ (n : ℕ). addressesIn n (addressBytes (begins rs) ++ addressBytes (ends rs))) (sym (length-map rs (λ (r : Range). r .0)))
-      ∙ addresses-back (begins rs) (addressBytes (ends rs)) (begin-words rs (l .small))
+      ∙ addresses-back (begins rs) (addressBytes (ends rs)) (begin-words rs small)
 
   after-begins : drop (4 + 8 * length rs) (sheetBytes rs) ≡ addressBytes (ends rs)
   after-begins =
@@ -83,23 +84,26 @@ module _ (rs : List Range) (l : Lawful rs) where
   ends-back =
       ap (addressesIn (length rs)) (after-begins ∙ sym (append-nil (addressBytes (ends rs))))
       ∙ ap (λ (n : ℕ). addressesIn n (addressBytes (ends rs) ++ [])) (sym (length-map rs (λ (r : Range). r .1)))
-      ∙ addresses-back (ends rs) [] (end-words rs (l .small))
+      ∙ addresses-back (ends rs) [] (end-words rs small)
 
   ranges-back : rangesIn (length rs) (sheetBytes rs) ≡ rs
   ranges-back = ap₂ paired begins-back ends-back ∙ paired-back rs
 
-  is-sheet : isSheet (length rs) (sheetBytes rs) ≡ true
-  unfolding isSheet
-  is-sheet =
-      rw (le-leb (length rs) limit (l .few), width-back, eq-eqb (length (sheetBytes rs)) (sheetLength (length rs)) length-back, ranges-back)
-      (from-lawful 0 rs (l .apart) (l .small))
+  is-sheet : (m : ℕ) → length rs ≤ m → isSheetWithin m (length rs) (sheetBytes rs) ≡ true
+  unfolding isSheetWithin
+  is-sheet m h =
+      rw (le-leb (length rs) m h, width-back, eq-eqb (length (sheetBytes rs)) (sheetLength (length rs)) length-back, ranges-back)
+      (from-lawful 0 rs apart small)
 
-  -- a sheet reads back to its ranges
-  pub sheet-back : sheetRanges (sheetBytes rs) ≡ gives rs
-  unfolding sheetRanges
-  sheet-back =
-      ap (λ (n : ℕ). pick (isSheet n (sheetBytes rs)) (gives (rangesIn n (sheetBytes rs))) (refusal BadSheet)) count-back
-      ∙ rw (is-sheet, ranges-back)
+  pub back-within : (m : ℕ) → length rs ≤ m → sheetRangesWithin m (sheetBytes rs) ≡ gives rs
+  back-within m h =
+      ap (λ (n : ℕ). pick (isSheetWithin m n (sheetBytes rs)) (gives (rangesIn n (sheetBytes rs))) (refusal BadSheet)) count-back
+      ∙ rw (is-sheet m h, ranges-back)
+
+-- a sheet reads back to its ranges
+pub sheet-back : (rs : List Range) → Lawful rs → sheetRanges (sheetBytes rs) ≡ gives rs
+unfolding sheetRanges
+sheet-back rs l = let h = l .few in back-within rs (l .apart) (l .small) (omega arith) limit h
 
 -- no two lists of lawful ranges have one sheet
 pub sheet-tells : (rs qs : List Range) → Lawful rs → Lawful qs → sheetBytes rs ≡ sheetBytes qs → rs ≡ qs
@@ -143,7 +147,7 @@ take-written k s h l =
     ap (λ (n : ℕ). littleBytes n (little (take k s))) (sym (length-take-le k s l)) ∙ little-written (take k s) (take-bytes k s h)
 
 -- addresses read from bytes, written again
-length-in : (n : ℕ) (s : List ℕ) → length (addressesIn n s) ≡ n
+pub length-in : (n : ℕ) (s : List ℕ) → length (addressesIn n s) ≡ n
 unfolding addressesIn
 length-in zero s = refl
 length-in (suc n) s = ap suc (length-in n (drop 8 s))
@@ -168,27 +172,30 @@ paired-words [] es w = tt
 paired-words (b ∷ bs) [] w = tt
 paired-words (b ∷ bs) (e ∷ es) w = (w .0, paired-words bs es (w .1))
 
+-- as many begins as ends, and as many ranges
+same-length : (n : ℕ) (bs : List ℕ) → length (addressesIn n (drop 4 bs)) ≡ length (addressesIn n (drop (4 + 8 * n) bs))
+same-length n bs = length-in n (drop 4 bs) ∙ sym (length-in n (drop (4 + 8 * n) bs))
+
+pub ranges-in : (n : ℕ) (bs : List ℕ) → length (rangesIn n bs) ≡ n
+ranges-in n bs =
+    length-paired (addressesIn n (drop 4 bs)) (addressesIn n (drop (4 + 8 * n) bs)) (same-length n bs) ∙ length-in n (drop 4 bs)
+
 -- bytes with the count, width and length of a sheet are the sheet of their ranges
 module _ (n : ℕ) (bs : List ℕ) (h : (i : ℕ) → getD bs i 0 < 256) (size : length bs ≡ sheetLength n) where
-  same-length : length (addressesIn n (drop 4 bs)) ≡ length (addressesIn n (drop (4 + 8 * n) bs))
-  same-length = length-in n (drop 4 bs) ∙ sym (length-in n (drop (4 + 8 * n) bs))
-
   count-written : countIn bs ≡ n → littleBytes 2 (length (rangesIn n bs)) ≡ take 2 bs
-  count-written c =
-      ap (littleBytes 2) (length-paired (addressesIn n (drop 4 bs)) (addressesIn n (drop (4 + 8 * n) bs)) same-length ∙ length-in n (drop 4 bs) ∙ sym c)
-      ∙ take-written 2 bs h (omega arith)
+  count-written c = ap (littleBytes 2) (ranges-in n bs ∙ sym c) ∙ take-written 2 bs h (omega arith)
 
   width-written : widthIn bs ≡ 8 → littleBytes 2 8 ≡ take 2 (drop 2 bs)
   width-written w = ap (littleBytes 2) (sym w) ∙ take-written 2 (drop 2 bs) (drop-bytes 2 bs h) (omega (arith, length-drop 2 bs))
 
   begins-written : addressBytes (begins (rangesIn n bs)) ≡ take (8 * n) (drop 4 bs)
   begins-written =
-      ap addressBytes (begins-paired (addressesIn n (drop 4 bs)) (addressesIn n (drop (4 + 8 * n) bs)) same-length)
+      ap addressBytes (begins-paired (addressesIn n (drop 4 bs)) (addressesIn n (drop (4 + 8 * n) bs)) (same-length n bs))
       ∙ addresses-written n (drop 4 bs) (drop-bytes 4 bs h) (omega (arith, length-drop 4 bs))
 
   ends-written : addressBytes (ends (rangesIn n bs)) ≡ take (8 * n) (drop (4 + 8 * n) bs)
   ends-written =
-      ap addressBytes (ends-paired (addressesIn n (drop 4 bs)) (addressesIn n (drop (4 + 8 * n) bs)) same-length)
+      ap addressBytes (ends-paired (addressesIn n (drop 4 bs)) (addressesIn n (drop (4 + 8 * n) bs)) (same-length n bs))
       ∙ addresses-written n (drop (4 + 8 * n) bs) (drop-bytes (4 + 8 * n) bs h) (omega (arith, length-drop (4 + 8 * n) bs))
 
   sheet-of : countIn bs ≡ n → widthIn bs ≡ 8 → bs ≡ sheetBytes (rangesIn n bs)
@@ -203,40 +210,60 @@ module _ (n : ℕ) (bs : List ℕ) (h : (i : ℕ) → getD bs i 0 < 256) (size :
       (words-in n (drop (4 + 8 * n) bs) (drop-bytes (4 + 8 * n) bs h) (omega (arith, length-drop (4 + 8 * n) bs)))
 
 -- what the test for a sheet tells
-sheet-is : (n : ℕ) (bs : List ℕ) → isSheet n bs ≡ true → (n ≤ limit) × (widthIn bs ≡ 8) × (length bs ≡ sheetLength n) × (lawfulFrom 0 (rangesIn n bs) ≡ true)
-unfolding isSheet
-sheet-is n bs e =
-    let p = and-eq-true-iff (leb n limit && eqb (widthIn bs) 8 && eqb (length bs) (sheetLength n)) (lawfulFrom 0 (rangesIn n bs)) .0 e in
-    let q = and-eq-true-iff (leb n limit && eqb (widthIn bs) 8) (eqb (length bs) (sheetLength n)) .0 (p .0) in
-    let r = and-eq-true-iff (leb n limit) (eqb (widthIn bs) 8) .0 (q .0) in
-    (leb-true n limit (r .0), eqb-true (widthIn bs) 8 (r .1), eqb-true (length bs) (sheetLength n) (q .1), p .1)
+sheet-is : (m n : ℕ) (bs : List ℕ) → isSheetWithin m n bs ≡ true
+    → (n ≤ m) × (widthIn bs ≡ 8) × (length bs ≡ sheetLength n) × (lawfulFrom 0 (rangesIn n bs) ≡ true)
+unfolding isSheetWithin
+sheet-is m n bs e =
+    let s = leb n m && eqb (widthIn bs) 8 && eqb (length bs) (sheetLength n) in
+    let p = and-eq-true-iff s (lawfulFrom 0 (rangesIn n bs)) .0 e in
+    let q = and-eq-true-iff (leb n m && eqb (widthIn bs) 8) (eqb (length bs) (sheetLength n)) .0 (p .0) in
+    let r = and-eq-true-iff (leb n m) (eqb (widthIn bs) 8) .0 (q .0) in
+    (leb-true n m (r .0), eqb-true (widthIn bs) 8 (r .1), eqb-true (length bs) (sheetLength n) (q .1), p .1)
 
-sheet-given : (bs : List ℕ) {rs : List Range} → sheetRanges bs ≡ gives rs → (isSheet (countIn bs) bs ≡ true) × (rangesIn (countIn bs) bs ≡ rs)
-unfolding sheetRanges
-sheet-given bs {rs} e = chosen (isSheet (countIn bs) bs) (rangesIn (countIn bs) bs) _ _ e
-  where
-    chosen : (t : Bool) (l : List Range) (n : ℕ) (vs : List ℕ) → pick t (gives l) (refused n vs) ≡ gives rs → (t ≡ true) × (l ≡ rs)
-    chosen true l n vs e = (refl, cc)
-    chosen false l n vs e = let z : _≡_ {A = ℕ} 0 1 = cc in absurd (omega arith)
+-- a sheet that is read
+module _ (m : ℕ) (bs : List ℕ) {rs : List Range} (e : sheetRangesWithin m bs ≡ gives rs) where
+  given : (isSheetWithin m (countIn bs) bs ≡ true) × (rangesIn (countIn bs) bs ≡ rs)
+  given = chosen (isSheetWithin m (countIn bs) bs) (rangesIn (countIn bs) bs) _ _ e
+    where
+      chosen : (t : Bool) (l : List Range) (n : ℕ) (vs : List ℕ) → pick t (gives l) (refused n vs) ≡ gives rs
+          → (t ≡ true) × (l ≡ rs)
+      chosen true l n vs e = (refl, cc)
+      chosen false l n vs e = let z : _≡_ {A = ℕ} 0 1 = cc in absurd (omega arith)
+
+  tested : let n = countIn bs in (n ≤ m) × (widthIn bs ≡ 8) × (length bs ≡ sheetLength n) × (lawfulFrom 0 (rangesIn n bs) ≡ true)
+  tested = sheet-is m (countIn bs) bs (given .0)
+
+  pub count-within : countIn bs ≤ m
+  count-within = tested .0
+
+  pub ranges-within : (lawfulFrom 0 rs ≡ true) × (length rs ≤ m)
+  ranges-within =
+      subst (λ (l : List Range). (lawfulFrom 0 l ≡ true) × (length l ≤ m)) (given .1)
+      (tested .3, omega (arith, ranges-in (countIn bs) bs, tested .0))
+
+  module _ (h : (i : ℕ) → getD bs i 0 < 256) where
+    -- it is the sheet of what was read
+    pub written-within : bs ≡ sheetBytes rs
+    written-within = sheet-of (countIn bs) bs h (tested .2) refl (tested .1) ∙ ap sheetBytes (given .1)
+
+    -- and that is lawful
+    pub lawful-within : m ≤ limit → Lawful rs
+    lawful-within k =
+        let n = countIn bs in
+        subst Lawful (given .1)
+        (record {
+          apart = lawful-from 0 (rangesIn n bs) (tested .3);
+          small = lawful-small 0 (rangesIn n bs) (tested .3) (ends-in n bs h (tested .2));
+          few = omega (arith, ranges-in n bs, tested .0);
+        })
 
 module _ (bs : List ℕ) (h : (i : ℕ) → getD bs i 0 < 256) {rs : List Range} (e : sheetRanges bs ≡ gives rs) where
   -- every sheet that is read is the sheet of what was read
   pub sheet-written : bs ≡ sheetBytes rs
-  sheet-written =
-      let g = sheet-given bs e in
-      let k = sheet-is (countIn bs) bs (g .0) in
-      sheet-of (countIn bs) bs h (k .2) refl (k .1) ∙ ap sheetBytes (g .1)
+  unfolding sheetRanges
+  sheet-written = written-within limit bs e h
 
   -- and that is lawful
   pub sheet-read-lawful : Lawful rs
-  sheet-read-lawful =
-      let g = sheet-given bs e in
-      let k = sheet-is (countIn bs) bs (g .0) in
-      let n = countIn bs in
-      let l : length (rangesIn n bs) ≡ n = length-paired (addressesIn n (drop 4 bs)) (addressesIn n (drop (4 + 8 * n) bs)) (same-length n bs h (k .2)) ∙ length-in n (drop 4 bs) in
-      subst Lawful (g .1)
-      (record {
-        apart = lawful-from 0 (rangesIn n bs) (k .3);
-        small = lawful-small 0 (rangesIn n bs) (k .3) (ends-in n bs h (k .2));
-        few = omega (arith, k .0);
-      })
+  unfolding sheetRanges
+  sheet-read-lawful = lawful-within limit bs e h (omega arith)

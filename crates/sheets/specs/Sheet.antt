@@ -46,10 +46,15 @@ rangesIn n bs = paired (addressesIn n (drop 4 bs)) (addressesIn n (drop (4 + 8 *
 abbrev pub sheetLength : ℕ → ℕ
 sheetLength n = 4 + 16 * n
 
--- whether bytes are a sheet that counts n: its count, width and length, and its ranges (docs/SCOPE.md, refusal 12)
-unfoldable pub isSheet : ℕ → List ℕ → Bool
-isSheet n bs = leb n limit && eqb (widthIn bs) 8 && eqb (length bs) (sheetLength n) && lawfulFrom 0 (rangesIn n bs)
+-- whether bytes are a sheet that counts n, where at most m ranges are read: its count, width and length, and its ranges
+-- (docs/SCOPE.md, refusal 12)
+unfoldable pub isSheetWithin : ℕ → ℕ → List ℕ → Bool
+isSheetWithin m n bs = leb n m && eqb (widthIn bs) 8 && eqb (length bs) (sheetLength n) && lawfulFrom 0 (rangesIn n bs)
+
+-- the ranges of a sheet, where at most m are read; what is no such sheet is refused
+abbrev pub sheetRangesWithin : ℕ → List ℕ → Result (List Range)
+sheetRangesWithin m bs = pick (isSheetWithin m (countIn bs) bs) (gives (rangesIn (countIn bs) bs)) (refusal BadSheet)
 
 -- the ranges of a sheet; what is no sheet is refused (docs/SCOPE.md, refusal 12)
 unfoldable pub sheetRanges : List ℕ → Result (List Range)
-sheetRanges bs = pick (isSheet (countIn bs) bs) (gives (rangesIn (countIn bs) bs)) (refusal BadSheet)
+sheetRanges bs = sheetRangesWithin limit bs

@@ -13,13 +13,13 @@ abbrev μ-loop : tie.MeasureT-loop
 μ-loop out₀ at n addresses i₀ p₀ out i p = n - i
 
 loop-holds : tie.Need-loop-holds Inv-loop μ-loop
-loop-holds c = putting-start (c .before .pre .0) (c .before .pre .1) (c .before .pre .2)
+loop-holds c = let p = c .before .before .pre in putting-start (p .0) (p .1)
 
 mul-put-u64 : tie.Need-mul-put-u64 Inv-loop μ-loop
 mul-put-u64 c = omega arith
 
-element-copy-out-put-u64 : tie.Need-element-copy-out-put-u64 Inv-loop μ-loop
-element-copy-out-put-u64 c = omega arith
+shared-slice-read-put-u64 : tie.Need-shared-slice-read-put-u64 Inv-loop μ-loop
+shared-slice-read-put-u64 c = omega arith
 
 put-u64-requires : tie.Need-put-u64-requires Inv-loop μ-loop
 put-u64-requires c κs = tt
@@ -52,7 +52,7 @@ put-addresses-spec =
     μ-loop
     loop-holds
     mul-put-u64
-    element-copy-out-put-u64
+    shared-slice-read-put-u64
     put-u64-requires
     add-p
     add-i

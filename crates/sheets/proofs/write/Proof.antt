@@ -26,7 +26,7 @@ slice-write-out-4 : tie.Need-slice-write-out-4
 slice-write-out-4 c = simp length-set (omega arith)
 
 put-addresses-requires : tie.Need-put-addresses-requires
-put-addresses-requires c κs = (c .before .before .pre .0, omega arith, simp length-set (omega arith))
+put-addresses-requires c κs = (c .before .before .before .before .pre .0 .0, simp length-set (omega arith))
 
 mul-put-addresses : tie.Need-mul-put-addresses
 mul-put-addresses c = search needs
@@ -35,16 +35,18 @@ add-put-addresses : tie.Need-add-put-addresses
 add-put-addresses c = search needs
 
 put-addresses-requires-2 : tie.Need-put-addresses-requires-2
-put-addresses-requires-2 c κs = let p = c .before .before .before .before .before .before .pre in
-    (p .0, p .2, omega (arith, simp length-set at (c .before .before .before .put-addresses .kept .0)))
+put-addresses-requires-2 c κs =
+    let p = c .before .before .before .before .before .before .before .before .pre in
+    (p .0 .1, omega (arith, simp length-set at (c .before .before .before .put-addresses .kept .0)))
 
 same-length : tie.Need-same-length
 same-length c =
     c .before .before .put-addresses2 .kept .0 ∙ (simp length-set at (c .before .before .before .before .before .before .put-addresses .kept .0))
 
 returns : tie.Need-returns
-returns c = let s = c .before .before .before .before .before .before .before .before .before in
-    sheet-put (s .args .begins .now) (s .args .ends .now) (s .args .n) (s .pre .0) (s .pre .1) (s .pre .2) (s .args .out .now)
+returns c =
+    let s = c .before .before .before .before .before .before .before .before .before .before .before in
+    sheet-put (s .args .begins .now) (s .args .ends .now) (s .args .n) (s .pre .0) (s .args .out .now)
     (c .before .before .before .before .before .before .put-addresses .ensures) (c .before .before .put-addresses2 .ensures)
 
 pub write-spec : {M : Type 1} → statement M

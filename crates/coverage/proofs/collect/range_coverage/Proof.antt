@@ -1,6 +1,6 @@
 -- The coverage was put into two arrays of zeros. Assumes nothing.
 use mathlib.Core.Path.{_∙_}
-use Rattle.coverage.proofs.GatherLaws.{placed-coverage}
+use Rattle.coverage.proofs.PlaceLaws.{placed-coverage}
 use borrow.Author.Needs.{needs}
 use Rattle.coverage.proofs.collect.range_coverage.Statement.{statement}
 use Rattle.coverage.proofs.collect.range_coverage.Tie as tie

@@ -18,19 +18,19 @@ min-tombstone-requires : tie.Need-min-tombstone-requires Inv-loop μ-loop
 min-tombstone-requires c κs = search needs
 
 loop-holds : tie.Need-loop-holds Inv-loop μ-loop
-loop-holds c = let p = c .before .pre in checked-start (p .0) (p .1) (p .2)
+loop-holds c = let p = c .before .before .before .pre in checked-start (p .0) (p .1) (p .2)
 
 mul-begin : tie.Need-mul-begin Inv-loop μ-loop
 mul-begin c = omega arith
 
-element-copy-out-begin : tie.Need-element-copy-out-begin Inv-loop μ-loop
-element-copy-out-begin c = omega arith
+shared-slice-read-begin : tie.Need-shared-slice-read-begin Inv-loop μ-loop
+shared-slice-read-begin c = omega arith
 
 mul-end : tie.Need-mul-end Inv-loop μ-loop
 mul-end c = omega arith
 
-element-copy-out-end : tie.Need-element-copy-out-end Inv-loop μ-loop
-element-copy-out-end c = omega arith
+shared-slice-read-end : tie.Need-shared-slice-read-end Inv-loop μ-loop
+shared-slice-read-end c = omega arith
 
 returns : tie.Need-returns Inv-loop μ-loop
 returns c =
@@ -68,9 +68,9 @@ ranges-lawful-spec =
     min-tombstone-requires
     loop-holds
     mul-begin
-    element-copy-out-begin
+    shared-slice-read-begin
     mul-end
-    element-copy-out-end
+    shared-slice-read-end
     returns
     returns-2
     returns-3

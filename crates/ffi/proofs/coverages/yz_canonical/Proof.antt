@@ -4,8 +4,8 @@ use borrow.Author.Needs.{needs}
 use Rattle.ffi.proofs.coverages.yz_canonical.Statement.{statement}
 use Rattle.ffi.proofs.coverages.yz_canonical.Tie as tie
 
-canonical-requires : tie.Need-canonical-requires
-canonical-requires c κs = search needs
+canonical-of-requires : tie.Need-canonical-of-requires
+canonical-of-requires c κs = search needs
 
 count-written-requires : tie.Need-count-written-requires
 count-written-requires c κs = search needs
@@ -16,8 +16,8 @@ same-length c = search needs
 returns : tie.Need-returns
 returns c =
     output-left _ (c .count-written .ensures)
-    (c .before .before .before .canonical .ensures)
+    (c .before .before .before .canonical-of .ensures)
 
 pub yz-canonical-spec : {M : Type 1} → statement M
 yz-canonical-spec =
-    tie.close (tie.spec canonical-requires count-written-requires same-length returns)
+    tie.close (tie.spec canonical-of-requires count-written-requires same-length returns)
