@@ -184,10 +184,11 @@ static void layout(void) {
     SIZE(part, 16);
     FIELD(part, offset, 0);
     FIELD(part, length, 8);
-    SIZE(walk, 24);
+    SIZE(walk, 32);
     FIELD(walk, at, 0);
     FIELD(walk, base_address, 8);
-    FIELD(walk, split, 16);
+    FIELD(walk, entries, 16);
+    FIELD(walk, split, 24);
     SIZE(bounds, 8 * 3000);
     SIZE(range_entry, 24);
     FIELD(range_entry, kind, 0);
@@ -577,37 +578,41 @@ static void test_section_of(void) {
 /* The walk that a test is on. */
 static yz_walk walk;
 
+/* A walk that has read no entry. */
 static void walk_from(uint64_t at, uint64_t base_address, uint64_t split) {
     walk.at = at;
     walk.base_address = base_address;
+    walk.entries = 0;
     walk.split = split;
 }
 
-static bool walk_is(uint64_t at, uint64_t base_address, uint64_t split) {
-    return walk.at == at && walk.base_address == base_address && walk.split == split;
+static bool walk_is(uint64_t at, uint64_t base_address, uint64_t entries, uint64_t split) {
+    return walk.at == at && walk.base_address == base_address && walk.entries == entries && walk.split == split;
 }
 
-/* A call that leaves the walk at a place with a base address, as split as it was, and answers with these fields. */
-#define STEP(type, call, at, base_address, ...)                                                                      \
+/* A call that leaves the walk at a place with a base address and a count of entries, as split as it was, and answers with
+ * these fields. */
+#define STEP(type, call, at, base_address, entries, ...)                                                             \
     do {                                                                                                             \
         const uint64_t split = walk.split;                                                                           \
         IS(type, call, __VA_ARGS__);                                                                                 \
-        check(walk_is(at, base_address, split), __LINE__, "the walk is at " #at ", " #base_address);                 \
+        check(walk_is(at, base_address, entries, split), __LINE__,                                                   \
+              "the walk is at " #at ", " #base_address ", with " #entries);                                          \
     } while (0)
 
 /* An opening that makes this walk, and one that is refused and makes none. */
 #define OPENS(call, at, base_address, split)                                                                         \
     do {                                                                                                             \
-        walk_from(OLD_WORD, OLD_WORD, OLD_WORD);                                                                     \
+        old(&walk, sizeof walk);                                                                                     \
         IS(done, call, DONE);                                                                                        \
-        check(walk_is(at, base_address, split), __LINE__, "the walk of " #call);                                     \
+        check(walk_is(at, base_address, 0, split), __LINE__, "the walk of " #call);                                  \
     } while (0)
 
 #define REFUSES_OPENING(call, ...)                                                                                   \
     do {                                                                                                             \
-        walk_from(OLD_WORD, OLD_WORD, OLD_WORD);                                                                     \
+        old(&walk, sizeof walk);                                                                                     \
         IS(done, call, __VA_ARGS__);                                                                                 \
-        check(walk_is(OLD_WORD, OLD_WORD, OLD_WORD), __LINE__, "untouched: " #call);                                 \
+        check(walk_is(OLD_WORD, OLD_WORD, OLD_WORD, OLD_WORD), __LINE__, "untouched: " #call);                       \
     } while (0)
 
 static void test_range_open(void) {
@@ -639,161 +644,250 @@ static void test_location_open(void) {
 
 static void ranges_from(uint64_t at, uint64_t base_address) { walk_from(at, base_address, OLD_WORD); }
 
-#define NEXT(list, table, encoding, at, base_address, ...)                                                           \
-    STEP(range, yz_range_next(list, table, 8, encoding, &walk), at, base_address, __VA_ARGS__)
+#define NEXT(list, table, encoding, at, base_address, entries, ...)                                                  \
+    STEP(range, yz_range_next(list, table, 8, encoding, &walk), at, base_address, entries, __VA_ARGS__)
 
 /* Addresses of three bytes. */
 static void ranges_of_three(void) {
     ranges_from(0, 0);
-    NEXT(S("\x06\x10\0\0\x20\0\0\0"), TABLE_3, little(5, 3), 7, 0, DONE, 0x10, 0x20);
-    NEXT(S("\x06\x10\0\0\x20\0\0\0"), TABLE_3, little(5, 3), 8, 0, END);
+    NEXT(S("\x06\x10\0\0\x20\0\0\0"), TABLE_3, little(5, 3), 7, 0, 1, DONE, 0x10, 0x20);
+    NEXT(S("\x06\x10\0\0\x20\0\0\0"), TABLE_3, little(5, 3), 8, 0, 2, END);
     ranges_from(0, 0);
-    NEXT(S("\x06\0\0\x10\0\0\x20\0"), BIG_TABLE_3, big(5, 3), 7, 0, DONE, 0x10, 0x20);
-    NEXT(S("\x06\0\0\x10\0\0\x20\0"), BIG_TABLE_3, big(5, 3), 8, 0, END);
+    NEXT(S("\x06\0\0\x10\0\0\x20\0"), BIG_TABLE_3, big(5, 3), 7, 0, 1, DONE, 0x10, 0x20);
+    NEXT(S("\x06\0\0\x10\0\0\x20\0"), BIG_TABLE_3, big(5, 3), 8, 0, 2, END);
     ranges_from(0, 0);
-    NEXT(S("\x06\x01\x02\x03\x04\x05\x06"), TABLE_3, little(5, 3), 7, 0, DONE, 0x030201, 0x060504);
+    NEXT(S("\x06\x01\x02\x03\x04\x05\x06"), TABLE_3, little(5, 3), 7, 0, 1, DONE, 0x030201, 0x060504);
     ranges_from(0, 0);
-    NEXT(S("\x06\x01\x02\x03\x04\x05\x06"), BIG_TABLE_3, big(5, 3), 7, 0, DONE, 0x010203, 0x040506);
+    NEXT(S("\x06\x01\x02\x03\x04\x05\x06"), BIG_TABLE_3, big(5, 3), 7, 0, 1, DONE, 0x010203, 0x040506);
     ranges_from(0, 0);
-    NEXT(S("\x05\x10\x20\x30\x04\x01\x02\0"), TABLE_3, little(5, 3), 7, 0x302010, DONE, 0x302011, 0x302012);
+    NEXT(S("\x05\x10\x20\x30\x04\x01\x02\0"), TABLE_3, little(5, 3), 7, 0x302010, 2, DONE, 0x302011, 0x302012);
     ranges_from(0, 0xfffffd);
-    NEXT(S("\x04\0\x01\0"), TABLE_3, little(5, 3), 3, 0xfffffd, DONE, 0xfffffd, 0xfffffe);
+    NEXT(S("\x04\0\x01\0"), TABLE_3, little(5, 3), 3, 0xfffffd, 1, DONE, 0xfffffd, 0xfffffe);
     ranges_from(0, 0xfffffe);
-    NEXT(S("\x04\0\x01\0"), TABLE_3, little(5, 3), 4, 0xfffffe, END);
+    NEXT(S("\x04\0\x01\0"), TABLE_3, little(5, 3), 4, 0xfffffe, 2, END);
     ranges_from(0, 0xffff00);
-    NEXT(S("\x04\x80\x02\x90\x02\0"), TABLE_3, little(5, 3), 5, 0xffff00, DONE, 0, 0x10);
+    NEXT(S("\x04\x80\x02\x90\x02\0"), TABLE_3, little(5, 3), 5, 0xffff00, 1, DONE, 0, 0x10);
     ranges_from(0, 0);
-    NEXT(S("\x07\xf0\xff\xff\x0f\0"), TABLE_3, little(5, 3), 5, 0, DONE, 0xfffff0, 0xffffff);
+    NEXT(S("\x07\xf0\xff\xff\x0f\0"), TABLE_3, little(5, 3), 5, 0, 1, DONE, 0xfffff0, 0xffffff);
     ranges_from(0, 0);
-    NEXT(S("\x07\xf0\xff\xff\x10\0"), TABLE_3, little(5, 3), 6, 0, END);
+    NEXT(S("\x07\xf0\xff\xff\x10\0"), TABLE_3, little(5, 3), 6, 0, 2, END);
     ranges_from(0, 0);
 #define LIST S("\xff\xff\xff\0\x20\0\x01\0\0\x03\0\0\0\0\0\0\0\0")
-    NEXT(LIST, TABLE_3, little(4, 3), 12, 0x2000, DONE, 0x2001, 0x2003);
-    NEXT(LIST, TABLE_3, little(4, 3), 18, 0x2000, END);
+    NEXT(LIST, TABLE_3, little(4, 3), 12, 0x2000, 2, DONE, 0x2001, 0x2003);
+    NEXT(LIST, TABLE_3, little(4, 3), 18, 0x2000, 3, END);
 #undef LIST
     ranges_from(0, 0);
 #define LIST S("\xff\xff\xff\x10\x20\x30\0\0\x01\0\0\x03")
-    NEXT(LIST, BIG_TABLE_3, big(3, 3), 12, 0x102030, DONE, 0x102031, 0x102033);
-    NEXT(LIST, BIG_TABLE_3, big(3, 3), 12, 0x102030, END);
+    NEXT(LIST, BIG_TABLE_3, big(3, 3), 12, 0x102030, 2, DONE, 0x102031, 0x102033);
+    NEXT(LIST, BIG_TABLE_3, big(3, 3), 12, 0x102030, 2, END);
 #undef LIST
     /* No base selection: of 00ffff not all bits are set. */
     ranges_from(0, 0);
-    NEXT(S("\xff\xff\0\xff\xff\x01"), TABLE_3, little(4, 3), 6, 0, DONE, 0xffff, 0x01ffff);
+    NEXT(S("\xff\xff\0\xff\xff\x01"), TABLE_3, little(4, 3), 6, 0, 1, DONE, 0xffff, 0x01ffff);
     ranges_from(0, 0);
 #define LIST S("\x02\0\x02\x02\0\x01\x01\x01\x04\0\x05\0")
-    NEXT(LIST, TABLE_3, little(5, 3), 3, 0, CUT_SHORT);
-    NEXT(LIST, TABLE_3, little(5, 3), 6, 0, DONE, 0x10, 0x20);
-    NEXT(LIST, TABLE_3, little(5, 3), 11, 0x20, DONE, 0x20, 0x25);
+    NEXT(LIST, TABLE_3, little(5, 3), 3, 0, 1, CUT_SHORT);
+    NEXT(LIST, TABLE_3, little(5, 3), 6, 0, 2, DONE, 0x10, 0x20);
+    NEXT(LIST, TABLE_3, little(5, 3), 11, 0x20, 4, DONE, 0x20, 0x25);
 #undef LIST
     ranges_from(0, 0);
-    NEXT(S("\x03\x01\x08\0"), BIG_TABLE_3, big(5, 3), 3, 0, DONE, 0x20, 0x28);
+    NEXT(S("\x03\x01\x08\0"), BIG_TABLE_3, big(5, 3), 3, 0, 1, DONE, 0x20, 0x28);
     ranges_from(0, 7);
-    NEXT(S("\x06\x10\0"), TABLE_3, little(5, 3), 3, 7, CUT_SHORT);
+    NEXT(S("\x06\x10\0"), TABLE_3, little(5, 3), 3, 7, 0, CUT_SHORT);
     ranges_from(0, 7);
-    NEXT(S("\xff\xff\xff\0\x20"), TABLE_3, little(4, 3), 5, 7, CUT_SHORT);
+    NEXT(S("\xff\xff\xff\0\x20"), TABLE_3, little(4, 3), 5, 7, 0, CUT_SHORT);
     ranges_from(0, 7);
-    NEXT(S("\x03" INDEX_THIRD "\0\0"), TABLE_3, little(5, 3), 11, 7, CUT_SHORT);
+    NEXT(S("\x03" INDEX_THIRD "\0\0"), TABLE_3, little(5, 3), 11, 7, 1, CUT_SHORT);
     ranges_from(0, 7);
-    NEXT(S("\x03" INDEX_PAST_THIRD "\0\0"), TABLE_3, little(5, 3), 11, 7, TOO_FAR);
+    NEXT(S("\x03" INDEX_PAST_THIRD "\0\0"), TABLE_3, little(5, 3), 11, 7, 1, TOO_FAR);
+}
+
+/* Entries that count, and those that don't; counts that are handed in. */
+static void ranges_counted(void) {
+    ranges_from(0, 0);
+    NEXT(S("\0"), TABLE, little(5, 4), 1, 0, 1, END);
+    NEXT(S("\0"), TABLE, little(5, 4), 1, 0, 1, END);
+    ranges_from(0, 0);
+    NEXT(S("\x06\x10\0\0\0\x20\0\0\0\0"), TABLE, little(5, 4), 9, 0, 1, DONE, 0x10, 0x20);
+    NEXT(S("\x06\x10\0\0\0\x20\0\0\0\0"), TABLE, little(5, 4), 10, 0, 2, END);
+    NEXT(S("\x06\x10\0\0\0\x20\0\0\0\0"), TABLE, little(5, 4), 10, 0, 2, END);
+    ranges_from(0, 0);
+    NEXT(S("\x06\x10\0\0\0\x20\0\0\0"), TABLE, little(5, 4), 9, 0, 1, DONE, 0x10, 0x20);
+    NEXT(S("\x06\x10\0\0\0\x20\0\0\0"), TABLE, little(5, 4), 9, 0, 1, END);
+    ranges_from(0, 0);
+#define LIST S("\x05\0\x10\0\0\x04\x01\x02\x04\x03\x03\x04\x05\x06\0\xff")
+    NEXT(LIST, TABLE, little(5, 4), 8, 0x1000, 2, DONE, 0x1001, 0x1002);
+    NEXT(LIST, TABLE, little(5, 4), 14, 0x1000, 4, DONE, 0x1005, 0x1006);
+    NEXT(LIST, TABLE, little(5, 4), 16, 0x1000, 5, END);
+    ranges_from(0, 0);
+    walk.entries = MAX - 1;
+    NEXT(LIST, TABLE, little(5, 4), 8, 0x1000, MAX, DONE, 0x1001, 0x1002);
+#undef LIST
+    ranges_from(0, 0);
+#define LIST S("\x07\x10\0\0\0\x01\x08")
+    NEXT(LIST, TABLE, little(5, 4), 6, 0, 1, DONE, 0x10, 0x11);
+    NEXT(LIST, TABLE, little(5, 4), 7, 0, 1, REFUSED(YZ_UNKNOWN_RANGE_LISTS_ENTRY, 8));
+    NEXT(LIST, TABLE, little(5, 4), 7, 0, 1, END);
+#undef LIST
+    ranges_from(0, 0);
+#define LIST S("\x07\x10\0\0\0\x01\0")
+    walk.entries = MAX;
+    NEXT(LIST, TABLE, little(5, 4), 6, 0, MAX, DONE, 0x10, 0x11);
+    NEXT(LIST, TABLE, little(5, 4), 7, 0, MAX, END);
+    ranges_from(0, 0);
+    walk.entries = MAX - 1;
+    NEXT(LIST, TABLE, little(5, 4), 6, 0, MAX, DONE, 0x10, 0x11);
+    NEXT(LIST, TABLE, little(5, 4), 7, 0, MAX, END);
+#undef LIST
+    ranges_from(0, 0);
+#define LIST S("\xff\xff\0\x20\x03\0\x03\0\x01\0\x03\0\0\0\0\0\x01")
+    walk.entries = 7;
+    NEXT(LIST, TABLE, little(4, 2), 12, 0x2000, 10, DONE, 0x2001, 0x2003);
+    NEXT(LIST, TABLE, little(4, 2), 17, 0x2000, 11, END);
+    NEXT(LIST, TABLE, little(4, 2), 17, 0x2000, 11, END);
+#undef LIST
+    /* Refused lookups, by 9 and by 1. */
+    ranges_from(0, 0);
+    walk.entries = MAX - 2;
+    NEXT(S("\x03" INDEX_2_61 "\0\x01\x09\0"), TABLE, little(5, 8), 11, 0, MAX - 1, TOO_FAR);
+    NEXT(S("\x03" INDEX_2_61 "\0\x01\x09\0"), TABLE, little(5, 8), 13, 0, MAX, CUT_SHORT);
+    NEXT(S("\x03" INDEX_2_61 "\0\x01\x09\0"), TABLE, little(5, 8), 14, 0, MAX, END);
+    /* Refused entries, and a refused size. */
+    ranges_from(0, 7);
+    NEXT(S("\x08"), TABLE, little(5, 4), 1, 7, 0, REFUSED(YZ_UNKNOWN_RANGE_LISTS_ENTRY, 8));
+    ranges_from(0, 7);
+    walk.entries = 7;
+    NEXT(S("\x04\x01\x01\x06\x10\0"), TABLE, little(5, 4), 6, 7, 8, CUT_SHORT);
+    NEXT(S("\x04\x01\x01\x06\x10\0"), TABLE, little(5, 4), 6, 7, 8, END);
+    ranges_from(0, 7);
+    walk.entries = 7;
+    NEXT(S("\x04" NINE "\x02\x01"), TABLE, little(5, 4), 12, 7, 7, REFUSED(YZ_BAD_UNSIGNED_LEB128, 0));
+    ranges_from(0, 7);
+    walk.entries = 7;
+    NEXT(S("\0"), TABLE, little(5, 5), 1, 7, 7, BAD_SIZE(5));
+    NEXT(S("\0"), TABLE, little(5, 5), 1, 7, 7, BAD_SIZE(5));
+    ranges_from(99, 7);
+    walk.entries = 7;
+    NEXT(S("\0"), TABLE, little(5, 4), 99, 7, 7, END);
 }
 
 static void test_range_next(void) {
     ranges_from(0, 0);
 #define LIST S("\x02\0\x02\x03\0\x08\0")
-    NEXT(LIST, TABLE, little(5, 4), 3, 0, CUT_SHORT);
-    NEXT(LIST, TABLE, little(5, 4), 6, 0, DONE, 0x10, 0x18);
-    NEXT(LIST, TABLE, little(5, 4), 7, 0, END);
-    NEXT(LIST, TABLE, little(5, 4), 7, 0, END);
+    NEXT(LIST, TABLE, little(5, 4), 3, 0, 1, CUT_SHORT);
+    NEXT(LIST, TABLE, little(5, 4), 6, 0, 2, DONE, 0x10, 0x18);
+    NEXT(LIST, TABLE, little(5, 4), 7, 0, 3, END);
+    NEXT(LIST, TABLE, little(5, 4), 7, 0, 3, END);
 #undef LIST
     ranges_from(1, 0x1000);
-    NEXT(S("\x09\x04\x01\x82\0\0\0\0\0"), TABLE, little(5, 4), 5, 0x1000, DONE, 0x1001, 0x1002);
+    NEXT(S("\x09\x04\x01\x82\0\0\0\0\0"), TABLE, little(5, 4), 5, 0x1000, 1, DONE, 0x1001, 0x1002);
     ranges_from(0, 0xfffffffd);
-    NEXT(S("\x04\0\x01\0"), TABLE, little(5, 4), 3, 0xfffffffd, DONE, 0xfffffffd, 0xfffffffe);
+    NEXT(S("\x04\0\x01\0"), TABLE, little(5, 4), 3, 0xfffffffd, 1, DONE, 0xfffffffd, 0xfffffffe);
     ranges_from(0, 0xfffffffe);
-    NEXT(S("\x04\0\x01\0"), TABLE, little(5, 4), 4, 0xfffffffe, END);
+    NEXT(S("\x04\0\x01\0"), TABLE, little(5, 4), 4, 0xfffffffe, 2, END);
     ranges_from(0, 0xffffff00);
-    NEXT(S("\x04\x80\x02\x90\x02\0"), TABLE, little(5, 4), 5, 0xffffff00, DONE, 0, 0x10);
+    NEXT(S("\x04\x80\x02\x90\x02\0"), TABLE, little(5, 4), 5, 0xffffff00, 1, DONE, 0, 0x10);
     ranges_from(0, 0);
-    NEXT(S("\x07\xf0\x0f\0"), TABLE, little(5, 1), 3, 0, DONE, 0xf0, 0xff);
+    NEXT(S("\x07\xf0\x0f\0"), TABLE, little(5, 1), 3, 0, 1, DONE, 0xf0, 0xff);
     ranges_from(0, 0);
-    NEXT(S("\x07\xf0\x20\0\xaa\xaa"), TABLE, little(5, 1), 6, 0, END);
+    NEXT(S("\x07\xf0\x20\0\xaa\xaa"), TABLE, little(5, 1), 6, 0, 2, END);
     ranges_from(0, 0);
 #define LIST S("\xff\xff\0\x20\x01\0\x03\0\0\0\0\0\x01")
-    NEXT(LIST, TABLE, little(4, 2), 8, 0x2000, DONE, 0x2001, 0x2003);
-    NEXT(LIST, TABLE, little(4, 2), 13, 0x2000, END);
+    NEXT(LIST, TABLE, little(4, 2), 8, 0x2000, 2, DONE, 0x2001, 0x2003);
+    NEXT(LIST, TABLE, little(4, 2), 13, 0x2000, 3, END);
 #undef LIST
     ranges_from(0, 0);
-    NEXT(S("\x06\0\0\0\x10\0\0\0\x20\0"), BIG_TABLE, big(5, 4), 9, 0, DONE, 0x10, 0x20);
+    NEXT(S("\x06\0\0\0\x10\0\0\0\x20\0"), BIG_TABLE, big(5, 4), 9, 0, 1, DONE, 0x10, 0x20);
     ranges_from(0, 0);
-    NEXT(S("\x01\x01\x04\0\x05\0"), BIG_TABLE, big(6, 4), 5, 0x20, DONE, 0x20, 0x25);
+    NEXT(S("\x01\x01\x04\0\x05\0"), BIG_TABLE, big(6, 4), 5, 0x20, 2, DONE, 0x20, 0x25);
     ranges_from(0, 7);
-    NEXT(S("\x08\x04\x01\x02"), TABLE, little(5, 4), 4, 7, REFUSED(YZ_UNKNOWN_RANGE_LISTS_ENTRY, 8));
-    NEXT(S("\x08\x04\x01\x02"), TABLE, little(5, 4), 4, 7, END);
+    NEXT(S("\x08\x04\x01\x02"), TABLE, little(5, 4), 4, 7, 0, REFUSED(YZ_UNKNOWN_RANGE_LISTS_ENTRY, 8));
+    NEXT(S("\x08\x04\x01\x02"), TABLE, little(5, 4), 4, 7, 0, END);
     ranges_from(0, 7);
-    NEXT(S("\x06\x10\0"), TABLE, little(5, 4), 3, 7, CUT_SHORT);
+    NEXT(S("\x06\x10\0"), TABLE, little(5, 4), 3, 7, 0, CUT_SHORT);
     ranges_from(0, 7);
-    NEXT(S("\x04" NINE "\x02\x01"), TABLE, little(5, 4), 12, 7, REFUSED(YZ_BAD_UNSIGNED_LEB128, 0));
+    NEXT(S("\x04" NINE "\x02\x01"), TABLE, little(5, 4), 12, 7, 0, REFUSED(YZ_BAD_UNSIGNED_LEB128, 0));
     ranges_from(0, 7);
-    NEXT(S("\x03" INDEX_2_61 "\0\0"), TABLE, little(5, 8), 11, 7, TOO_FAR);
+    NEXT(S("\x03" INDEX_2_61 "\0\0"), TABLE, little(5, 8), 11, 7, 1, TOO_FAR);
     ranges_from(0, 7);
-    NEXT(S("\x04\x01\x02"), TABLE, little(5, 5), 3, 7, BAD_SIZE(5));
-    NEXT(S("\x04\x01\x02"), TABLE, little(5, 5), 3, 7, BAD_SIZE(5));
+    NEXT(S("\x04\x01\x02"), TABLE, little(5, 5), 3, 7, 0, BAD_SIZE(5));
+    NEXT(S("\x04\x01\x02"), TABLE, little(5, 5), 3, 7, 0, BAD_SIZE(5));
     ranges_from(MAX, 7);
-    NEXT(S("\x04\x01\x02"), TABLE, little(5, 4), MAX, 7, END);
+    NEXT(S("\x04\x01\x02"), TABLE, little(5, 4), MAX, 7, 0, END);
     ranges_from(0, 7);
-    NEXT(NO_BYTES, NO_BYTES, little(5, 4), 0, 7, END);
+    NEXT(NO_BYTES, NO_BYTES, little(5, 4), 0, 7, 0, END);
     ranges_of_three();
+    ranges_counted();
 }
 
-#define RAW(list, encoding, at, ...)                                                                                 \
-    STEP(raw_range, yz_range_next_raw(list, encoding, &walk), at, 7, __VA_ARGS__)
+#define RAW(list, encoding, at, entries, ...)                                                                        \
+    STEP(raw_range, yz_range_next_raw(list, encoding, &walk), at, 7, entries, __VA_ARGS__)
 
 static void test_range_next_raw(void) {
     ranges_from(0, 7);
 #define LIST S("\x01\x09\x02\x08\x07\x03\x06\x05\x04\x04\x05\x05\x33\x06\x02\x03\x07\x01\x02\0\x09")
-    RAW(LIST, little(5, 1), 2, DONE, YZ_RLE_BASE_ADDRESSX, 9, 0);
-    RAW(LIST, little(5, 1), 5, DONE, YZ_RLE_STARTX_ENDX, 8, 7);
-    RAW(LIST, little(5, 1), 8, DONE, YZ_RLE_STARTX_LENGTH, 6, 5);
-    RAW(LIST, little(5, 1), 11, DONE, YZ_RLE_OFFSET_PAIR, 4, 5);
-    RAW(LIST, little(5, 1), 13, DONE, YZ_RLE_BASE_ADDRESS, 0x33, 0);
-    RAW(LIST, little(5, 1), 16, DONE, YZ_RLE_START_END, 2, 3);
-    RAW(LIST, little(5, 1), 19, DONE, YZ_RLE_START_LENGTH, 1, 2);
-    RAW(LIST, little(5, 1), 21, END);
+    RAW(LIST, little(5, 1), 2, 1, DONE, YZ_RLE_BASE_ADDRESSX, 9, 0);
+    RAW(LIST, little(5, 1), 5, 2, DONE, YZ_RLE_STARTX_ENDX, 8, 7);
+    RAW(LIST, little(5, 1), 8, 3, DONE, YZ_RLE_STARTX_LENGTH, 6, 5);
+    RAW(LIST, little(5, 1), 11, 4, DONE, YZ_RLE_OFFSET_PAIR, 4, 5);
+    RAW(LIST, little(5, 1), 13, 5, DONE, YZ_RLE_BASE_ADDRESS, 0x33, 0);
+    RAW(LIST, little(5, 1), 16, 6, DONE, YZ_RLE_START_END, 2, 3);
+    RAW(LIST, little(5, 1), 19, 7, DONE, YZ_RLE_START_LENGTH, 1, 2);
+    RAW(LIST, little(5, 1), 21, 8, END);
 #undef LIST
     ranges_from(0, 7);
-    RAW(S("\xff\x20\x03\x05"), little(4, 1), 2, DONE, YZ_RLE_BASE_ADDRESS, 0x20, 0);
-    RAW(S("\xff\x20\x03\x05"), little(4, 1), 4, DONE, YZ_RLE_ADDRESS_OR_OFFSET_PAIR, 3, 5);
-    RAW(S("\xff\x20\x03\x05"), little(4, 1), 4, END);
+    RAW(S("\xff\x20\x03\x05"), little(4, 1), 2, 1, DONE, YZ_RLE_BASE_ADDRESS, 0x20, 0);
+    RAW(S("\xff\x20\x03\x05"), little(4, 1), 4, 2, DONE, YZ_RLE_ADDRESS_OR_OFFSET_PAIR, 3, 5);
+    RAW(S("\xff\x20\x03\x05"), little(4, 1), 4, 2, END);
     ranges_from(0, 7);
-    RAW(S("\x05\0\x01"), encoded(6, 2, true, BIG), 3, DONE, YZ_RLE_BASE_ADDRESS, 1, 0);
+    RAW(S("\x05\0\x01"), encoded(6, 2, true, BIG), 3, 1, DONE, YZ_RLE_BASE_ADDRESS, 1, 0);
     ranges_from(0, 7);
 #define LIST S("\x05\x01\x02\x03\x06\x01\x02\x03\x04\x05\x06\x07\x01\x02\x03\x80\x01\0")
-    RAW(LIST, little(5, 3), 4, DONE, YZ_RLE_BASE_ADDRESS, 0x030201, 0);
-    RAW(LIST, little(5, 3), 11, DONE, YZ_RLE_START_END, 0x030201, 0x060504);
-    RAW(LIST, little(5, 3), 17, DONE, YZ_RLE_START_LENGTH, 0x030201, 0x80);
-    RAW(LIST, little(5, 3), 18, END);
+    RAW(LIST, little(5, 3), 4, 1, DONE, YZ_RLE_BASE_ADDRESS, 0x030201, 0);
+    RAW(LIST, little(5, 3), 11, 2, DONE, YZ_RLE_START_END, 0x030201, 0x060504);
+    RAW(LIST, little(5, 3), 17, 3, DONE, YZ_RLE_START_LENGTH, 0x030201, 0x80);
+    RAW(LIST, little(5, 3), 18, 4, END);
 #undef LIST
     ranges_from(0, 7);
 #define LIST S("\xff\xff\xff\x01\x02\x03\0\0\x03\x04\x05\x06\0\0\0\0\0")
-    RAW(LIST, big(4, 3), 6, DONE, YZ_RLE_BASE_ADDRESS, 0x010203, 0);
-    RAW(LIST, big(4, 3), 12, DONE, YZ_RLE_ADDRESS_OR_OFFSET_PAIR, 3, 0x040506);
-    RAW(LIST, big(4, 3), 17, CUT_SHORT);
+    RAW(LIST, big(4, 3), 6, 1, DONE, YZ_RLE_BASE_ADDRESS, 0x010203, 0);
+    RAW(LIST, big(4, 3), 12, 2, DONE, YZ_RLE_ADDRESS_OR_OFFSET_PAIR, 3, 0x040506);
+    RAW(LIST, big(4, 3), 17, 2, CUT_SHORT);
 #undef LIST
     ranges_from(0, 7);
-    RAW(S("\x06\x01\x02\x03\x04\x05"), big(5, 3), 6, CUT_SHORT);
+    RAW(S("\x06\x01\x02\x03\x04\x05"), big(5, 3), 6, 0, CUT_SHORT);
     ranges_from(0, 7);
-    RAW(S("\xff\0\0"), little(5, 1), 3, REFUSED(YZ_UNKNOWN_RANGE_LISTS_ENTRY, 0xff));
+    RAW(S("\xff\0\0"), little(5, 1), 3, 0, REFUSED(YZ_UNKNOWN_RANGE_LISTS_ENTRY, 0xff));
     ranges_from(0, 7);
-    RAW(S("\x06\x01"), little(5, 1), 2, CUT_SHORT);
+    RAW(S("\x06\x01"), little(5, 1), 2, 0, CUT_SHORT);
     ranges_from(0, 7);
-    RAW(S("\x01" NINE "\x02"), little(5, 1), 11, REFUSED(YZ_BAD_UNSIGNED_LEB128, 0));
+    RAW(S("\x01" NINE "\x02"), little(5, 1), 11, 0, REFUSED(YZ_BAD_UNSIGNED_LEB128, 0));
     ranges_from(MAX, 7);
-    RAW(S("\0\0"), little(5, 0), 2, BAD_SIZE(0));
-    RAW(S("\0\0"), little(5, 0), 2, BAD_SIZE(0));
+    RAW(S("\0\0"), little(5, 0), 2, 0, BAD_SIZE(0));
+    RAW(S("\0\0"), little(5, 0), 2, 0, BAD_SIZE(0));
     ranges_from(MAX, 7);
-    RAW(S("\0\0"), little(5, 1), MAX, END);
+    RAW(S("\0\0"), little(5, 1), MAX, 0, END);
     ranges_from(0, 7);
-    RAW(NO_BYTES, little(4, 1), 0, END);
+    RAW(NO_BYTES, little(4, 1), 0, 0, END);
+    ranges_from(0, 7);
+    walk.entries = MAX - 1;
+    RAW(S("\x04\x01\x02\0\0"), little(5, 4), 3, MAX, DONE, YZ_RLE_OFFSET_PAIR, 1, 2);
+    RAW(S("\x04\x01\x02\0\0"), little(5, 4), 5, MAX, END);
+    ranges_from(0, 7);
+    walk.entries = MAX - 1;
+    RAW(S("\0"), little(5, 4), 1, MAX, END);
+    ranges_from(0, 7);
+    walk.entries = MAX;
+    RAW(S("\x04\x01\x02\0"), little(5, 4), 3, MAX, DONE, YZ_RLE_OFFSET_PAIR, 1, 2);
+    ranges_from(0, 7);
+    walk.entries = 7;
+    RAW(S("\x08"), little(5, 4), 1, 7, REFUSED(YZ_UNKNOWN_RANGE_LISTS_ENTRY, 8));
+    ranges_from(0, 7);
+    walk.entries = 7;
+    RAW(S("\0"), little(5, 5), 1, 7, BAD_SIZE(5));
+    ranges_from(99, 7);
+    walk.entries = 7;
+    RAW(S("\0"), little(5, 4), 99, 7, END);
 }
 
 static yz_range_entry range_entry(uint64_t kind, uint64_t first, uint64_t second) {
@@ -808,8 +902,9 @@ static yz_range_entry range_entry(uint64_t kind, uint64_t first, uint64_t second
 #define CONVERT(table, encoding, kind, first, second, base_address, ...)                                             \
     do {                                                                                                             \
         ranges_from(5, 0x100);                                                                                       \
+        walk.entries = 6;                                                                                            \
         STEP(range, yz_range_convert_raw(table, 8, encoding, range_entry(kind, first, second), &walk), 5,            \
-             base_address, __VA_ARGS__);                                                                             \
+             base_address, 6, __VA_ARGS__);                                                                          \
     } while (0)
 
 static void test_range_convert_raw(void) {
@@ -842,6 +937,29 @@ static void test_range_convert_raw(void) {
     CONVERT(TABLE_3, little(5, 3), YZ_RLE_BASE_ADDRESSX, 2, 0, 0x100, CUT_SHORT);
     CONVERT(TABLE_3, little(5, 3), YZ_RLE_STARTX_ENDX, 0, THIRD, 0x100, CUT_SHORT);
     CONVERT(TABLE_3, little(5, 3), YZ_RLE_STARTX_ENDX, 0, THIRD + 1, 0x100, TOO_FAR);
+    /* Between calls that read entries. */
+#define LIST S("\x05\0\x10\0\0\x04\x01\x02\x04\x03\x03\x04\x05\x06\0\xff")
+#define READ_ONE(at, base_address, entries, ...)                                                                     \
+    STEP(raw_range, yz_range_next_raw(LIST, little(5, 4), &walk), at, base_address, entries, __VA_ARGS__)
+#define CONVERT_ONE(kind, first, second, at, base_address, entries, ...)                                             \
+    STEP(range, yz_range_convert_raw(TABLE, 8, little(5, 4), range_entry(kind, first, second), &walk), at,           \
+         base_address, entries, __VA_ARGS__)
+    OPENS(yz_range_open(LIST, little(5, 4), 0, 0, &walk), 0, 0, 0);
+    READ_ONE(5, 0, 1, DONE, YZ_RLE_BASE_ADDRESS, 0x1000, 0);
+    CONVERT_ONE(YZ_RLE_BASE_ADDRESS, 0x1000, 0, 5, 0x1000, 1, COMES_TO_NOTHING);
+    READ_ONE(8, 0x1000, 2, DONE, YZ_RLE_OFFSET_PAIR, 1, 2);
+    CONVERT_ONE(YZ_RLE_OFFSET_PAIR, 1, 2, 8, 0x1000, 2, DONE, 0x1001, 0x1002);
+    READ_ONE(11, 0x1000, 3, DONE, YZ_RLE_OFFSET_PAIR, 3, 3);
+    CONVERT_ONE(YZ_RLE_OFFSET_PAIR, 3, 3, 11, 0x1000, 3, COMES_TO_NOTHING);
+    CONVERT_ONE(YZ_RLE_STARTX_LENGTH, 2, 3, 11, 0x1000, 3, CUT_SHORT);
+    CONVERT_ONE(8, 3, 3, 11, 0x1000, 3, REFUSED(YZ_UNKNOWN_RANGE_LISTS_ENTRY, 8));
+    NEXT(LIST, TABLE, little(5, 4), 14, 0x1000, 4, DONE, 0x1005, 0x1006);
+    NEXT(LIST, TABLE, little(5, 4), 16, 0x1000, 5, END);
+    CONVERT_ONE(YZ_RLE_OFFSET_PAIR, 1, 2, 16, 0x1000, 5, DONE, 0x1001, 0x1002);
+    READ_ONE(16, 0x1000, 5, END);
+#undef LIST
+#undef READ_ONE
+#undef CONVERT_ONE
 }
 
 #define LOOKUP(list, encoding, offset, address, ...)                                                                 \
@@ -874,147 +992,233 @@ static void test_range_lookup(void) {
 
 /* ---- Location lists. Any word but 0 makes a walk one of a split list. ---- */
 
-#define LNEXT(list, table, encoding, at, base_address, ...)                                                          \
-    STEP(location, yz_location_next(list, table, 8, encoding, &walk), at, base_address, __VA_ARGS__)
+#define LNEXT(list, table, encoding, at, base_address, entries, ...)                                                 \
+    STEP(location, yz_location_next(list, table, 8, encoding, &walk), at, base_address, entries, __VA_ARGS__)
 
 /* Addresses of three bytes. */
 static void locations_of_three(void) {
     walk_from(0, 0, 0);
 #define LIST S("\x07\x01\x02\x03\x04\x05\x06\x01\x50\x08\xf0\xff\xff\x0f\x01\x51\x08\xf0\xff\xff\x10\0\0")
-    LNEXT(LIST, TABLE_3, little(5, 3), 9, 0, DONE, 0x030201, 0x060504, 8, 1);
-    LNEXT(LIST, TABLE_3, little(5, 3), 16, 0, DONE, 0xfffff0, 0xffffff, 15, 1);
-    LNEXT(LIST, TABLE_3, little(5, 3), 23, 0, END);
+    LNEXT(LIST, TABLE_3, little(5, 3), 9, 0, 1, DONE, 0x030201, 0x060504, 8, 1);
+    LNEXT(LIST, TABLE_3, little(5, 3), 16, 0, 2, DONE, 0xfffff0, 0xffffff, 15, 1);
+    LNEXT(LIST, TABLE_3, little(5, 3), 23, 0, 4, END);
 #undef LIST
     walk_from(0, 0, 0);
-    LNEXT(S("\x07\x01\x02\x03\x04\x05\x06\0"), BIG_TABLE_3, big(5, 3), 8, 0, DONE, 0x010203, 0x040506, 8, 0);
+    LNEXT(S("\x07\x01\x02\x03\x04\x05\x06\0"), BIG_TABLE_3, big(5, 3), 8, 0, 1, DONE, 0x010203, 0x040506, 8, 0);
     walk_from(0, 0, 0);
-    LNEXT(S("\x05\x01\x50\0"), TABLE_3, little(5, 3), 3, 0, DONE, 0, MAX, 2, 1);
+    LNEXT(S("\x05\x01\x50\0"), TABLE_3, little(5, 3), 3, 0, 1, DONE, 0, MAX, 2, 1);
     walk_from(0, 0xfffffd, 0);
-    LNEXT(S("\x04\0\x01\0\0"), TABLE_3, little(5, 3), 4, 0xfffffd, DONE, 0xfffffd, 0xfffffe, 4, 0);
+    LNEXT(S("\x04\0\x01\0\0"), TABLE_3, little(5, 3), 4, 0xfffffd, 1, DONE, 0xfffffd, 0xfffffe, 4, 0);
     walk_from(0, 0xfffffe, 0);
-    LNEXT(S("\x04\0\x01\0\0"), TABLE_3, little(5, 3), 5, 0xfffffe, END);
+    LNEXT(S("\x04\0\x01\0\0"), TABLE_3, little(5, 3), 5, 0xfffffe, 2, END);
     walk_from(0, 0, 0);
 #define LIST S("\xff\xff\xff\x10\x20\x30\x01\0\0\x03\0\0\x02\0\x50\x51\0\0\0\0\0\0")
-    LNEXT(LIST, TABLE_3, little(4, 3), 16, 0x302010, DONE, 0x302011, 0x302013, 14, 2);
-    LNEXT(LIST, TABLE_3, little(4, 3), 22, 0x302010, END);
+    LNEXT(LIST, TABLE_3, little(4, 3), 16, 0x302010, 2, DONE, 0x302011, 0x302013, 14, 2);
+    LNEXT(LIST, TABLE_3, little(4, 3), 22, 0x302010, 3, END);
 #undef LIST
     walk_from(0, 0, 1);
 #define LIST S("\x03\x01\x08\0\0\0\x01\0\x50\x06\x10\x20\x30\x04\x01\x02\0\0\0")
-    LNEXT(LIST, TABLE_3, little(4, 3), 9, 0, DONE, 0x20, 0x28, 8, 1);
-    LNEXT(LIST, TABLE_3, little(4, 3), 18, 0x302010, DONE, 0x302011, 0x302012, 18, 0);
-    LNEXT(LIST, TABLE_3, little(4, 3), 19, 0x302010, END);
+    LNEXT(LIST, TABLE_3, little(4, 3), 9, 0, 1, DONE, 0x20, 0x28, 8, 1);
+    LNEXT(LIST, TABLE_3, little(4, 3), 18, 0x302010, 3, DONE, 0x302011, 0x302012, 18, 0);
+    LNEXT(LIST, TABLE_3, little(4, 3), 19, 0x302010, 4, END);
 #undef LIST
     walk_from(0, 0, 1);
-    LNEXT(S("\x03\x01\0\0\0\x08\0\x01\x50\0"), BIG_TABLE_3, big(4, 3), 9, 0, DONE, 0x20, 0x28, 8, 1);
+    LNEXT(S("\x03\x01\0\0\0\x08\0\x01\x50\0"), BIG_TABLE_3, big(4, 3), 9, 0, 1, DONE, 0x20, 0x28, 8, 1);
     walk_from(0, 0, 0);
-    LNEXT(S("\x02\0\x02\0\x02\0\x01\0\0"), TABLE_3, little(5, 3), 4, 0, CUT_SHORT);
-    LNEXT(S("\x02\0\x02\0\x02\0\x01\0\0"), TABLE_3, little(5, 3), 8, 0, DONE, 0x10, 0x20, 8, 0);
+    LNEXT(S("\x02\0\x02\0\x02\0\x01\0\0"), TABLE_3, little(5, 3), 4, 0, 1, CUT_SHORT);
+    LNEXT(S("\x02\0\x02\0\x02\0\x01\0\0"), TABLE_3, little(5, 3), 8, 0, 2, DONE, 0x10, 0x20, 8, 0);
     walk_from(0, 7, 0);
-    LNEXT(S("\x07\x10\0"), TABLE_3, little(5, 3), 3, 7, CUT_SHORT);
+    LNEXT(S("\x07\x10\0"), TABLE_3, little(5, 3), 3, 7, 0, CUT_SHORT);
     walk_from(0, 7, 0);
-    LNEXT(S("\x03" INDEX_PAST_THIRD "\0\0\0"), TABLE_3, little(5, 3), 12, 7, TOO_FAR);
+    LNEXT(S("\x03" INDEX_PAST_THIRD "\0\0\0"), TABLE_3, little(5, 3), 12, 7, 1, TOO_FAR);
+}
+
+/* Entries that count, and those that don't; counts that are handed in. */
+static void locations_counted(void) {
+    walk_from(0, 0, 0);
+    LNEXT(S("\0"), TABLE, little(5, 4), 1, 0, 1, END);
+    LNEXT(S("\0"), TABLE, little(5, 4), 1, 0, 1, END);
+    walk_from(0, 0, 0);
+    LNEXT(S("\x07\x10\0\0\0\x20\0\0\0\x01\x50"), TABLE, little(5, 4), 11, 0, 1, DONE, 0x10, 0x20, 10, 1);
+    LNEXT(S("\x07\x10\0\0\0\x20\0\0\0\x01\x50"), TABLE, little(5, 4), 11, 0, 1, END);
+    walk_from(0, 0, 0);
+#define LIST S("\x06\0\x10\0\0\x04\x01\x02\0\x04\x03\x03\0\x04\x05\x06\0\0\xff")
+    LNEXT(LIST, TABLE, little(5, 4), 9, 0x1000, 2, DONE, 0x1001, 0x1002, 9, 0);
+    LNEXT(LIST, TABLE, little(5, 4), 17, 0x1000, 4, DONE, 0x1005, 0x1006, 17, 0);
+    LNEXT(LIST, TABLE, little(5, 4), 19, 0x1000, 5, END);
+    LNEXT(LIST, TABLE, little(5, 4), 19, 0x1000, 5, END);
+    walk_from(0, 0, 0);
+    walk.entries = MAX - 1;
+    LNEXT(LIST, TABLE, little(5, 4), 9, 0x1000, MAX, DONE, 0x1001, 0x1002, 9, 0);
+    LNEXT(LIST, TABLE, little(5, 4), 17, 0x1000, MAX, DONE, 0x1005, 0x1006, 17, 0);
+    LNEXT(LIST, TABLE, little(5, 4), 19, 0x1000, MAX, END);
+#undef LIST
+    walk_from(0, 0, OLD_WORD);
+#define LIST S("\x06\0\x10\0\0\x04\x01\x02\0\0\x04\x03\x03\0\0\x04\x05\x06\0\0\0\xff")
+    LNEXT(LIST, TABLE, little(4, 4), 10, 0x1000, 2, DONE, 0x1001, 0x1002, 10, 0);
+    LNEXT(LIST, TABLE, little(4, 4), 20, 0x1000, 4, DONE, 0x1005, 0x1006, 20, 0);
+    LNEXT(LIST, TABLE, little(4, 4), 22, 0x1000, 5, END);
+    LNEXT(LIST, TABLE, little(4, 4), 22, 0x1000, 5, END);
+    walk_from(0, 0, 1);
+    walk.entries = MAX;
+    LNEXT(LIST, TABLE, little(4, 4), 10, 0x1000, MAX, DONE, 0x1001, 0x1002, 10, 0);
+#undef LIST
+    walk_from(0, 0, 0);
+#define LIST S("\xff\x20\x03\x03\0\0\x01\x03\x02\0\x50\x51\0\0\x07")
+    walk.entries = 7;
+    LNEXT(LIST, TABLE, little(4, 1), 12, 0x20, 10, DONE, 0x21, 0x23, 10, 2);
+    LNEXT(LIST, TABLE, little(4, 1), 15, 0x20, 11, END);
+#undef LIST
+    /* Refused lookups. */
+    walk_from(0, 0, 0);
+    LNEXT(S("\x02\0\x02\0\x03\0\x08\0\0"), TABLE, little(5, 4), 4, 0, 1, CUT_SHORT);
+    LNEXT(S("\x02\0\x02\0\x03\0\x08\0\0"), TABLE, little(5, 4), 8, 0, 2, DONE, 0x10, 0x18, 8, 0);
+    LNEXT(S("\x02\0\x02\0\x03\0\x08\0\0"), TABLE, little(5, 4), 9, 0, 3, END);
+    walk_from(0, 0, 1);
+#define LIST S("\x03\x02\x08\0\0\0\0\0\x03\0\x08\0\0\0\x01\0\x50\0")
+    LNEXT(LIST, TABLE, little(4, 4), 8, 0, 1, CUT_SHORT);
+    LNEXT(LIST, TABLE, little(4, 4), 17, 0, 2, DONE, 0x10, 0x18, 16, 1);
+    LNEXT(LIST, TABLE, little(4, 4), 18, 0, 3, END);
+#undef LIST
+    /* Refused entries, and a refused size. */
+    walk_from(0, 0, 0);
+    LNEXT(S("\x08\x10\0\0\0\x01\0\x09"), TABLE, little(5, 4), 7, 0, 1, DONE, 0x10, 0x11, 7, 0);
+    LNEXT(S("\x08\x10\0\0\0\x01\0\x09"), TABLE, little(5, 4), 8, 0, 1, REFUSED(YZ_UNKNOWN_LOC_LISTS_ENTRY, 9));
+    LNEXT(S("\x08\x10\0\0\0\x01\0\x09"), TABLE, little(5, 4), 8, 0, 1, END);
+    walk_from(0, 7, 1);
+    LNEXT(S("\x09"), TABLE, little(4, 4), 1, 7, 0, REFUSED(YZ_UNKNOWN_LOC_LISTS_ENTRY, 9));
+    walk_from(0, 7, 1);
+    walk.entries = 7;
+    LNEXT(S("\x05\x02\0\x50"), TABLE, little(4, 4), 4, 7, 7, CUT_SHORT);
+    walk_from(0, 7, 1);
+    walk.entries = 7;
+    LNEXT(S("\0"), TABLE, little(4, 5), 1, 7, 7, BAD_SIZE(5));
+    LNEXT(S("\0"), TABLE, little(4, 5), 1, 7, 7, BAD_SIZE(5));
+    walk_from(99, 7, 1);
+    walk.entries = 7;
+    LNEXT(S("\0"), TABLE, little(5, 4), 99, 7, 7, END);
 }
 
 static void test_location_next(void) {
     walk_from(0, 0, 0);
-    LNEXT(S("\x05\x01\x50\0"), TABLE, little(5, 4), 3, 0, DONE, 0, MAX, 2, 1);
-    LNEXT(S("\x05\x01\x50\0"), TABLE, little(5, 4), 4, 0, END);
+    LNEXT(S("\x05\x01\x50\0"), TABLE, little(5, 4), 3, 0, 1, DONE, 0, MAX, 2, 1);
+    LNEXT(S("\x05\x01\x50\0"), TABLE, little(5, 4), 4, 0, 2, END);
     walk_from(0, 0, 1);
 #define LIST S("\x03\0\x08\0\0\0\x01\0\x50\0")
-    LNEXT(LIST, TABLE, little(4, 4), 9, 0, DONE, 0x10, 0x18, 8, 1);
-    LNEXT(LIST, TABLE, little(4, 4), 10, 0, END);
+    LNEXT(LIST, TABLE, little(4, 4), 9, 0, 1, DONE, 0x10, 0x18, 8, 1);
+    LNEXT(LIST, TABLE, little(4, 4), 10, 0, 2, END);
     walk_from(0, 0, MAX);
-    LNEXT(LIST, TABLE, little(4, 4), 9, 0, DONE, 0x10, 0x18, 8, 1);
+    LNEXT(LIST, TABLE, little(4, 4), 9, 0, 1, DONE, 0x10, 0x18, 8, 1);
     walk_from(0, 0, UINT64_C(1) << 32);
-    LNEXT(LIST, TABLE, little(4, 4), 9, 0, DONE, 0x10, 0x18, 8, 1);
+    LNEXT(LIST, TABLE, little(4, 4), 9, 0, 1, DONE, 0x10, 0x18, 8, 1);
     walk_from(0, 0, 0);
-    LNEXT(LIST, TABLE, little(4, 4), 10, 0, CUT_SHORT);
+    LNEXT(LIST, TABLE, little(4, 4), 10, 0, 0, CUT_SHORT);
 #undef LIST
     walk_from(0, 0, 1);
-    LNEXT(S("\x04\0\x01\x01\0\x50\0"), TABLE, little(4, 4), 6, 0, DONE, 0, 1, 5, 1);
+    LNEXT(S("\x04\0\x01\x01\0\x50\0"), TABLE, little(4, 4), 6, 0, 1, DONE, 0, 1, 5, 1);
     walk_from(0, 0, 0);
 #define LIST S("\x03\x02\x08\0\x02\0\x01\x02\x50\x51\0\0\0")
-    LNEXT(LIST, TABLE, little(5, 4), 4, 0, CUT_SHORT);
-    LNEXT(LIST, TABLE, little(5, 4), 10, 0, DONE, 0x10, 0x20, 8, 2);
-    LNEXT(LIST, TABLE, little(5, 4), 13, 0, END);
+    LNEXT(LIST, TABLE, little(5, 4), 4, 0, 1, CUT_SHORT);
+    LNEXT(LIST, TABLE, little(5, 4), 10, 0, 2, DONE, 0x10, 0x20, 8, 2);
+    LNEXT(LIST, TABLE, little(5, 4), 13, 0, 3, END);
 #undef LIST
     walk_from(0, 0, 0);
-    LNEXT(S("\xff\x20\x01\x03\x02\0\x50\x51\0\0"), TABLE, little(4, 1), 8, 0x20, DONE, 0x21, 0x23, 6, 2);
+    LNEXT(S("\xff\x20\x01\x03\x02\0\x50\x51\0\0"), TABLE, little(4, 1), 8, 0x20, 2, DONE, 0x21, 0x23, 6, 2);
     walk_from(0, 0, 0);
-    LNEXT(S("\x01\x01\x04\0\x05\0\0"), BIG_TABLE, encoded(5, 4, true, BIG), 6, 0x20, DONE, 0x20, 0x25, 6, 0);
+    LNEXT(S("\x01\x01\x04\0\x05\0\0"), BIG_TABLE, encoded(5, 4, true, BIG), 6, 0x20, 2, DONE, 0x20, 0x25, 6, 0);
     walk_from(0, 7, 0);
-    LNEXT(S("\x09\0"), TABLE, little(5, 4), 2, 7, REFUSED(YZ_UNKNOWN_LOC_LISTS_ENTRY, 9));
+    LNEXT(S("\x09\0"), TABLE, little(5, 4), 2, 7, 0, REFUSED(YZ_UNKNOWN_LOC_LISTS_ENTRY, 9));
     walk_from(0, 7, 0);
-    LNEXT(S("\x04\0\x01\x02\x50"), TABLE, little(5, 4), 5, 7, CUT_SHORT);
+    LNEXT(S("\x04\0\x01\x02\x50"), TABLE, little(5, 4), 5, 7, 0, CUT_SHORT);
     walk_from(0, 7, 0);
-    LNEXT(S("\x05" NINE "\x01"), TABLE, little(5, 4), 11, 7, CUT_SHORT);
+    LNEXT(S("\x05" NINE "\x01"), TABLE, little(5, 4), 11, 7, 0, CUT_SHORT);
     walk_from(0, 7, 0);
-    LNEXT(S("\x05" NINE "\x02"), TABLE, little(5, 4), 11, 7, REFUSED(YZ_BAD_UNSIGNED_LEB128, 0));
+    LNEXT(S("\x05" NINE "\x02"), TABLE, little(5, 4), 11, 7, 0, REFUSED(YZ_BAD_UNSIGNED_LEB128, 0));
     walk_from(0, 7, 0);
-    LNEXT(S("\x03" INDEX_2_61 "\0\0\0"), TABLE, little(5, 8), 12, 7, TOO_FAR);
+    LNEXT(S("\x03" INDEX_2_61 "\0\0\0"), TABLE, little(5, 8), 12, 7, 1, TOO_FAR);
     walk_from(0, 7, 0);
-    LNEXT(S("\0"), TABLE, little(5, 6), 1, 7, BAD_SIZE(6));
-    LNEXT(S("\0"), TABLE, little(5, 6), 1, 7, BAD_SIZE(6));
+    LNEXT(S("\0"), TABLE, little(5, 6), 1, 7, 0, BAD_SIZE(6));
+    LNEXT(S("\0"), TABLE, little(5, 6), 1, 7, 0, BAD_SIZE(6));
     walk_from(MAX, 7, 0);
-    LNEXT(S("\x05\0"), TABLE, little(5, 4), MAX, 7, END);
+    LNEXT(S("\x05\0"), TABLE, little(5, 4), MAX, 7, 0, END);
     walk_from(0, 7, 0);
-    LNEXT(NO_BYTES, NO_BYTES, little(5, 4), 0, 7, END);
+    LNEXT(NO_BYTES, NO_BYTES, little(5, 4), 0, 7, 0, END);
     locations_of_three();
+    locations_counted();
 }
 
-#define LRAW(list, encoding, at, ...)                                                                                \
-    STEP(raw_location, yz_location_next_raw(list, encoding, &walk), at, 7, __VA_ARGS__)
+#define LRAW(list, encoding, at, entries, ...)                                                                       \
+    STEP(raw_location, yz_location_next_raw(list, encoding, &walk), at, 7, entries, __VA_ARGS__)
 
 static void test_location_next_raw(void) {
     walk_from(0, 7, 0);
 #define LIST                                                                                                         \
     S("\x01\x09\x02\x08\x07\0\x03\x06\x05\x01\x50\x04\x04\x05\0\x05\x02\x51\x52\x06\x33\x07\x02\x03\0\x08\x01\x02\0\0\x09")
-    LRAW(LIST, little(5, 1), 2, DONE, YZ_LLE_BASE_ADDRESSX, 9, 0, 0, 0);
-    LRAW(LIST, little(5, 1), 6, DONE, YZ_LLE_STARTX_ENDX, 8, 7, 6, 0);
-    LRAW(LIST, little(5, 1), 11, DONE, YZ_LLE_STARTX_LENGTH, 6, 5, 10, 1);
-    LRAW(LIST, little(5, 1), 15, DONE, YZ_LLE_OFFSET_PAIR, 4, 5, 15, 0);
-    LRAW(LIST, little(5, 1), 19, DONE, YZ_LLE_DEFAULT_LOCATION, 0, 0, 17, 2);
-    LRAW(LIST, little(5, 1), 21, DONE, YZ_LLE_BASE_ADDRESS, 0x33, 0, 0, 0);
-    LRAW(LIST, little(5, 1), 25, DONE, YZ_LLE_START_END, 2, 3, 25, 0);
-    LRAW(LIST, little(5, 1), 29, DONE, YZ_LLE_START_LENGTH, 1, 2, 29, 0);
-    LRAW(LIST, little(5, 1), 31, END);
+    LRAW(LIST, little(5, 1), 2, 1, DONE, YZ_LLE_BASE_ADDRESSX, 9, 0, 0, 0);
+    LRAW(LIST, little(5, 1), 6, 2, DONE, YZ_LLE_STARTX_ENDX, 8, 7, 6, 0);
+    LRAW(LIST, little(5, 1), 11, 3, DONE, YZ_LLE_STARTX_LENGTH, 6, 5, 10, 1);
+    LRAW(LIST, little(5, 1), 15, 4, DONE, YZ_LLE_OFFSET_PAIR, 4, 5, 15, 0);
+    LRAW(LIST, little(5, 1), 19, 5, DONE, YZ_LLE_DEFAULT_LOCATION, 0, 0, 17, 2);
+    LRAW(LIST, little(5, 1), 21, 6, DONE, YZ_LLE_BASE_ADDRESS, 0x33, 0, 0, 0);
+    LRAW(LIST, little(5, 1), 25, 7, DONE, YZ_LLE_START_END, 2, 3, 25, 0);
+    LRAW(LIST, little(5, 1), 29, 8, DONE, YZ_LLE_START_LENGTH, 1, 2, 29, 0);
+    LRAW(LIST, little(5, 1), 31, 9, END);
 #undef LIST
 #define LIST S("\x03\x01\x02\0\0\0\x01\0\x50\0")
     walk_from(0, 7, 1);
-    LRAW(LIST, little(4, 1), 9, DONE, YZ_LLE_STARTX_LENGTH, 1, 2, 8, 1);
+    LRAW(LIST, little(4, 1), 9, 1, DONE, YZ_LLE_STARTX_LENGTH, 1, 2, 8, 1);
     walk_from(0, 7, OLD_WORD);
-    LRAW(LIST, little(4, 1), 9, DONE, YZ_LLE_STARTX_LENGTH, 1, 2, 8, 1);
+    LRAW(LIST, little(4, 1), 9, 1, DONE, YZ_LLE_STARTX_LENGTH, 1, 2, 8, 1);
 #undef LIST
     walk_from(0, 7, 0);
-    LRAW(S("\x03\x05\x01\0\x50"), little(4, 1), 5, DONE, YZ_LLE_ADDRESS_OR_OFFSET_PAIR, 3, 5, 4, 1);
+    LRAW(S("\x03\x05\x01\0\x50"), little(4, 1), 5, 1, DONE, YZ_LLE_ADDRESS_OR_OFFSET_PAIR, 3, 5, 4, 1);
     walk_from(0, 7, 0);
 #define LIST S("\x06\x01\x02\x03\x07\x01\x02\x03\x04\x05\x06\0\x08\x01\x02\x03\x02\x01\x50\0")
-    LRAW(LIST, big(5, 3), 4, DONE, YZ_LLE_BASE_ADDRESS, 0x010203, 0, 0, 0);
-    LRAW(LIST, big(5, 3), 12, DONE, YZ_LLE_START_END, 0x010203, 0x040506, 12, 0);
-    LRAW(LIST, big(5, 3), 19, DONE, YZ_LLE_START_LENGTH, 0x010203, 2, 18, 1);
-    LRAW(LIST, big(5, 3), 20, END);
+    LRAW(LIST, big(5, 3), 4, 1, DONE, YZ_LLE_BASE_ADDRESS, 0x010203, 0, 0, 0);
+    LRAW(LIST, big(5, 3), 12, 2, DONE, YZ_LLE_START_END, 0x010203, 0x040506, 12, 0);
+    LRAW(LIST, big(5, 3), 19, 3, DONE, YZ_LLE_START_LENGTH, 0x010203, 2, 18, 1);
+    LRAW(LIST, big(5, 3), 20, 4, END);
 #undef LIST
     walk_from(0, 7, 1);
-    LRAW(S("\x08\x01\x02\x03\x02\x01\0\x50"), little(4, 3), 8, DONE, YZ_LLE_START_LENGTH, 0x030201, 2, 7, 1);
+    LRAW(S("\x08\x01\x02\x03\x02\x01\0\x50"), little(4, 3), 8, 1, DONE, YZ_LLE_START_LENGTH, 0x030201, 2, 7, 1);
     walk_from(0, 7, 0);
 #define LIST S("\xff\xff\xff\x01\x02\x03\x04\x05\x06\x07\x08\x09\x01\0\x50\0\0\0\0\0")
-    LRAW(LIST, little(4, 3), 6, DONE, YZ_LLE_BASE_ADDRESS, 0x030201, 0, 0, 0);
-    LRAW(LIST, little(4, 3), 15, DONE, YZ_LLE_ADDRESS_OR_OFFSET_PAIR, 0x060504, 0x090807, 14, 1);
-    LRAW(LIST, little(4, 3), 20, CUT_SHORT);
+    LRAW(LIST, little(4, 3), 6, 1, DONE, YZ_LLE_BASE_ADDRESS, 0x030201, 0, 0, 0);
+    LRAW(LIST, little(4, 3), 15, 2, DONE, YZ_LLE_ADDRESS_OR_OFFSET_PAIR, 0x060504, 0x090807, 14, 1);
+    LRAW(LIST, little(4, 3), 20, 2, CUT_SHORT);
 #undef LIST
     walk_from(0, 7, 0);
-    LRAW(S("\x03\x05\x01"), little(4, 1), 3, CUT_SHORT);
+    LRAW(S("\x03\x05\x01"), little(4, 1), 3, 0, CUT_SHORT);
     walk_from(0, 7, 0);
-    LRAW(S("\x09"), little(5, 1), 1, REFUSED(YZ_UNKNOWN_LOC_LISTS_ENTRY, 9));
+    LRAW(S("\x09"), little(5, 1), 1, 0, REFUSED(YZ_UNKNOWN_LOC_LISTS_ENTRY, 9));
     walk_from(0, 7, 0);
-    LRAW(S("\x01" NINE "\x02"), little(5, 1), 11, REFUSED(YZ_BAD_UNSIGNED_LEB128, 0));
+    LRAW(S("\x01" NINE "\x02"), little(5, 1), 11, 0, REFUSED(YZ_BAD_UNSIGNED_LEB128, 0));
     walk_from(MAX, 7, 0);
-    LRAW(S("\x09"), little(5, 5), 1, BAD_SIZE(5));
-    LRAW(S("\x09"), little(5, 5), 1, BAD_SIZE(5));
+    LRAW(S("\x09"), little(5, 5), 1, 0, BAD_SIZE(5));
+    LRAW(S("\x09"), little(5, 5), 1, 0, BAD_SIZE(5));
     walk_from(MAX, 7, 0);
-    LRAW(S("\x09"), little(5, 1), MAX, END);
+    LRAW(S("\x09"), little(5, 1), MAX, 0, END);
     walk_from(0, 7, 1);
-    LRAW(NO_BYTES, little(4, 1), 0, END);
+    LRAW(NO_BYTES, little(4, 1), 0, 0, END);
+    walk_from(0, 7, 1);
+    walk.entries = MAX - 1;
+    LRAW(S("\x05\x01\0\x50\0\0"), little(4, 4), 4, MAX, DONE, YZ_LLE_DEFAULT_LOCATION, 0, 0, 3, 1);
+    LRAW(S("\x05\x01\0\x50\0\0"), little(4, 4), 6, MAX, END);
+    walk_from(0, 7, 0);
+    walk.entries = MAX - 1;
+    LRAW(S("\0"), little(5, 4), 1, MAX, END);
+    walk_from(0, 7, 0);
+    walk.entries = MAX;
+    LRAW(S("\x05\x01\x50\0"), little(5, 4), 3, MAX, DONE, YZ_LLE_DEFAULT_LOCATION, 0, 0, 2, 1);
+    walk_from(0, 7, 0);
+    walk.entries = 7;
+    LRAW(S("\x09"), little(5, 4), 1, 7, REFUSED(YZ_UNKNOWN_LOC_LISTS_ENTRY, 9));
+    walk_from(0, 7, 1);
+    walk.entries = 7;
+    LRAW(S("\0"), little(4, 5), 1, 7, BAD_SIZE(5));
+    walk_from(99, 7, 0);
+    walk.entries = 7;
+    LRAW(S("\0"), little(5, 4), 99, 7, END);
 }
 
 static yz_location_entry location_entry(uint64_t kind, uint64_t first, uint64_t second, uint64_t offset, uint64_t length) {
@@ -1034,7 +1238,8 @@ static yz_location_entry entry(uint64_t kind, uint64_t first, uint64_t second) {
 #define LCONVERT(table, encoding, entry, base_address, ...)                                                          \
     do {                                                                                                             \
         walk_from(5, 0x100, OLD_WORD);                                                                               \
-        STEP(location, yz_location_convert_raw(table, 8, encoding, entry, &walk), 5, base_address, __VA_ARGS__);     \
+        walk.entries = 6;                                                                                            \
+        STEP(location, yz_location_convert_raw(table, 8, encoding, entry, &walk), 5, base_address, 6, __VA_ARGS__);  \
     } while (0)
 
 static void test_location_convert_raw(void) {
@@ -1070,6 +1275,29 @@ static void test_location_convert_raw(void) {
     LCONVERT(TABLE_3, little(5, 3), entry(YZ_LLE_START_LENGTH, 0xfffff0, 0x10), 0x100, COMES_TO_NOTHING);
     LCONVERT(TABLE_3, little(5, 3), entry(YZ_LLE_STARTX_LENGTH, THIRD, 7), 0x100, CUT_SHORT);
     LCONVERT(TABLE_3, little(5, 3), entry(YZ_LLE_STARTX_LENGTH, THIRD + 1, 7), 0x100, TOO_FAR);
+    /* Between calls that read entries, of a split list. */
+#define LIST S("\x06\0\x10\0\0\x04\x01\x02\0\0\x04\x03\x03\0\0\x04\x05\x06\0\0\0\xff")
+#define READ_ONE(at, base_address, entries, ...)                                                                     \
+    STEP(raw_location, yz_location_next_raw(LIST, little(4, 4), &walk), at, base_address, entries, __VA_ARGS__)
+#define CONVERT_ONE(entry, at, base_address, entries, ...)                                                           \
+    STEP(location, yz_location_convert_raw(TABLE, 8, little(4, 4), entry, &walk), at, base_address, entries,         \
+         __VA_ARGS__)
+    OPENS(yz_location_open(LIST, little(4, 4), DWO, 0, 0, &walk), 0, 0, 1);
+    READ_ONE(5, 0, 1, DONE, YZ_LLE_BASE_ADDRESS, 0x1000, 0, 0, 0);
+    CONVERT_ONE(entry(YZ_LLE_BASE_ADDRESS, 0x1000, 0), 5, 0x1000, 1, COMES_TO_NOTHING);
+    READ_ONE(10, 0x1000, 2, DONE, YZ_LLE_OFFSET_PAIR, 1, 2, 10, 0);
+    CONVERT_ONE(entry(YZ_LLE_OFFSET_PAIR, 1, 2), 10, 0x1000, 2, DONE, 0x1001, 0x1002, 3, 4);
+    READ_ONE(15, 0x1000, 3, DONE, YZ_LLE_OFFSET_PAIR, 3, 3, 15, 0);
+    CONVERT_ONE(entry(YZ_LLE_OFFSET_PAIR, 3, 3), 15, 0x1000, 3, COMES_TO_NOTHING);
+    CONVERT_ONE(entry(YZ_LLE_STARTX_LENGTH, 2, 3), 15, 0x1000, 3, CUT_SHORT);
+    CONVERT_ONE(entry(9, 3, 3), 15, 0x1000, 3, REFUSED(YZ_UNKNOWN_LOC_LISTS_ENTRY, 9));
+    LNEXT(LIST, TABLE, little(4, 4), 20, 0x1000, 4, DONE, 0x1005, 0x1006, 20, 0);
+    LNEXT(LIST, TABLE, little(4, 4), 22, 0x1000, 5, END);
+    CONVERT_ONE(entry(YZ_LLE_OFFSET_PAIR, 1, 2), 22, 0x1000, 5, DONE, 0x1001, 0x1002, 3, 4);
+    READ_ONE(22, 0x1000, 5, END);
+#undef LIST
+#undef READ_ONE
+#undef CONVERT_ONE
 }
 
 static bool expression_is(const uint8_t *section, size_t section_len, yz_part in, uint64_t offset, uint64_t length) {

@@ -151,7 +151,7 @@ fn join(parts: &[&[u8]]) -> Vec<u8> {
 
 fn versions(c: &mut Checks) {
     c.same(version(), VERSION);
-    c.same(VERSION, 4);
+    c.same(VERSION, 5);
     c.same((LIMIT, SHEET_MAX, CANONICAL_MAX), (3000, 48_004, 57_001));
 }
 
@@ -539,6 +539,24 @@ fn open_ranges<'a>(bytes: &'a [u8], encoding: Encoding, base_address: u64) -> Rn
         .expect("an open list")
 }
 
+/// An answer, and the walk's place and its count of entries then.
+type Step<T> = (Result<Option<T>>, u64, u64);
+
+/// The steps up to the second end.
+fn steps<T>(mut call: impl FnMut() -> Step<T>) -> Vec<Step<T>> {
+    let (mut all, mut ends) = (Vec::new(), 0);
+    while ends < 2 {
+        all.push(call());
+        ends += usize::from(matches!(all.last(), Some((Ok(None), ..))));
+    }
+    all
+}
+
+/// Their places and counts alone.
+fn counts<T>(call: impl FnMut() -> Step<T>) -> Vec<(u64, u64)> {
+    steps(call).into_iter().map(|(_, place, entries)| (place, entries)).collect()
+}
+
 /// What a walk hands out up to its end, which stays.
 fn ranges(bytes: &[u8], encoding: Encoding, base_address: u64) -> Vec<Result<Range>> {
     let mut walk = open_ranges(bytes, encoding, base_address);
@@ -571,6 +589,8 @@ fn range_open(c: &mut Checks) {
     }
     let raw = range_lists(&[0], Little).raw_ranges(RangeListsOffset(2), encoding(5, 4));
     c.same(raw.map(|_| ()), Err(EOF));
+    let raw = range_lists(&[0], Little).raw_ranges(RangeListsOffset(1), encoding(5, 4));
+    c.same(raw.map(|raw| (raw.place(), raw.entries())), Ok((1, 0)));
     let apart = RangeLists::new(DebugRanges::new(&[1, 2, 0, 0], Little), DebugRngLists::default());
     let walk = apart.ranges(
         RangeListsOffset(1),
@@ -587,6 +607,7 @@ fn range_open(c: &mut Checks) {
         &DebugAddr::default(),
         DebugAddrBase(0),
     );
+    c.same(walk.as_ref().map(|walk| (walk.place(), walk.entries())), Ok((0, 0)));
     c.same(walk.and_then(|mut walk| walk.next()), Ok(Some(at(1, 2))));
     c.same((apart.debug_ranges().reader().len(), apart.debug_rnglists().reader().len()), (4, 0));
 }
@@ -674,8 +695,51 @@ fn range_next(c: &mut Checks) {
             (walk.next(), walk.next(), walk.next()),
             (Ok(Some(at(0x20, 0x28))), Ok(Some(at(0x10, 0x20))), Ok(None)),
         );
+        c.same(walk.entries(), 3);
     }
+    ranges_counted(c);
 }
+
+/// Entries that count, and those that don't.
+fn ranges_counted(c: &mut Checks) {
+    let counted = |bytes: &[u8], encoding| {
+        let mut walk = open_ranges(bytes, encoding, 0);
+        steps(|| (walk.next(), walk.place(), walk.entries()))
+    };
+    let (five, end) = (encoding(5, 4), Ok(None));
+    let is = |begin, end| Ok(Some(at(begin, end)));
+    c.same(counted(&[], five), vec![(end, 0, 0), (end, 0, 0)]);
+    c.same(counted(&[0], five), vec![(end, 1, 1), (end, 1, 1)]);
+    let marked = [6, 0x10, 0, 0, 0, 0x20, 0, 0, 0, 0];
+    c.same(counted(&marked, five), vec![(is(0x10, 0x20), 9, 1), (end, 10, 2), (end, 10, 2)]);
+    c.same(counted(&marked[..9], five), vec![(is(0x10, 0x20), 9, 1), (end, 9, 1), (end, 9, 1)]);
+    c.same(
+        counted(BASE_AND_PAIRS, five),
+        vec![(is(0x1001, 0x1002), 8, 2), (is(0x1005, 0x1006), 14, 4), (end, 16, 5), (end, 16, 5)],
+    );
+    c.same(
+        counted(&[2, 0, 2, 3, 0, 8, 0], five),
+        vec![(Err(EOF), 3, 1), (is(0x10, 0x18), 6, 2), (end, 7, 3), (end, 7, 3)],
+    );
+    let unknown = Err(Error::UnknownRangeListsEntry(8));
+    c.same(
+        counted(&[7, 0x10, 0, 0, 0, 1, 8], five),
+        vec![(is(0x10, 0x11), 6, 1), (unknown, 7, 1), (end, 7, 1), (end, 7, 1)],
+    );
+    c.same(counted(&[8], five), vec![(unknown, 1, 0), (end, 1, 0), (end, 1, 0)]);
+    let bare = [0xff, 0xff, 0, 0x20, 3, 0, 3, 0, 1, 0, 3, 0, 0, 0, 0, 0, 1];
+    c.same(
+        counted(&bare, encoding(4, 2)),
+        vec![(is(0x2001, 0x2003), 12, 3), (end, 17, 4), (end, 17, 4)],
+    );
+    // A copy goes on counting by itself.
+    let mut walk = open_ranges(BASE_AND_PAIRS, five, 0);
+    let first = walk.clone();
+    c.same((walk.next(), walk.entries(), first.entries()), (is(0x1001, 0x1002), 2, 0));
+}
+
+/// A base, three offset pairs of which the second is empty, and the end mark.
+const BASE_AND_PAIRS: &[u8] = &[5, 0, 0x10, 0, 0, 4, 1, 2, 4, 3, 3, 4, 5, 6, 0, 0xff];
 
 /// One entry of each kind, size 1, and the end mark.
 const RANGE_KINDS: &[u8] = &[1, 9, 2, 8, 7, 3, 6, 5, 4, 4, 5, 5, 0x33, 6, 2, 3, 7, 1, 2, 0, 9];
@@ -703,11 +767,25 @@ fn range_next_raw(c: &mut Checks) {
     let kinds = range_kinds().into_iter().map(Ok).collect::<Vec<_>>();
     c.same(raw(RANGE_KINDS, encoding(5, 1)), (kinds.clone(), Ok(None)));
     let mut walk = open_ranges(RANGE_KINDS, encoding(5, 1), 0);
-    let places: Vec<u64> = (0..9).map(|_| walk.next_raw().map_or(0, |_| walk.place())).collect();
-    c.same(places, vec![2, 5, 8, 11, 13, 16, 19, 21, 21]);
-    let mut walk =
-        range_lists(RANGE_KINDS, Little).raw_ranges(RangeListsOffset(0), encoding(5, 1)).unwrap();
+    let counted: Vec<(u64, u64)> = [2, 5, 8, 11, 13, 16, 19, 21].into_iter().zip(1..).collect();
+    let counted = [&counted[..], &[(21, 8)]].concat();
+    c.same(counts(|| (walk.next_raw(), walk.place(), walk.entries())), counted.clone());
+    let lists = range_lists(RANGE_KINDS, Little);
+    let mut walk = lists.raw_ranges(RangeListsOffset(0), encoding(5, 1)).unwrap();
+    c.same(counts(|| (walk.next(), walk.place(), walk.entries())), counted);
+    let mut walk = lists.raw_ranges(RangeListsOffset(0), encoding(5, 1)).unwrap();
     c.same(std::iter::from_fn(|| walk.next().transpose()).collect::<Vec<_>>(), kinds);
+    // A refused entry is not counted, nor is the section's end.
+    for (bytes, version, counted) in [
+        (&[4, 1, 2, 8][..], 5, vec![(3, 1), (4, 1), (4, 1), (4, 1)]),
+        (&[4, 1, 2, 4], 5, vec![(3, 1), (4, 1), (4, 1), (4, 1)]),
+        (&[4, 1, 2], 5, vec![(3, 1), (3, 1), (3, 1)]),
+        (&[0xff, 0x20, 3, 5, 0, 0, 1], 4, vec![(2, 1), (4, 2), (7, 3), (7, 3)]),
+        (&[0xff, 0x20, 3], 4, vec![(2, 1), (3, 1), (3, 1), (3, 1)]),
+    ] {
+        let mut walk = open_ranges(bytes, encoding(version, 1), 0);
+        c.same(counts(|| (walk.next_raw(), walk.place(), walk.entries())), counted);
+    }
     let bare = [0xff, 0x20, 3, 5, 0, 0, 1, 2];
     let pair = AddressOrOffsetPair { begin: 3, end: 5 };
     c.same(raw(&bare, encoding(4, 1)), (vec![Ok(BaseAddress { addr: 0x20 }), Ok(pair)], Ok(None)));
@@ -763,9 +841,26 @@ fn range_convert_raw(c: &mut Checks) {
     c.same(walk.convert_raw(StartEnd { begin: 0xffff_fffe, end: u64::MAX }), Ok(None));
     c.same(walk.convert_raw(StartLength { begin: 5, length: 7 }), Ok(Some(at(5, 12))));
     c.same(walk.convert_raw(StartLength { begin: 5, length: u64::MAX }), Ok(None));
-    // The place has not moved, and the base is the second address.
+    // Place and count have not moved, and the base is the second address.
+    c.same((walk.place(), walk.entries()), (0, 0));
     c.same(walk.next(), Ok(Some(at(0x21, 0x22))));
     c.same(walk.next(), Ok(None));
+    let mut walk = open_ranges(BASE_AND_PAIRS, encoding(5, 4), 0);
+    for (place, entries, converted) in
+        [(5, 1, None), (8, 2, Some(at(0x1001, 0x1002))), (11, 3, None)]
+    {
+        let raw = walk.next_raw().unwrap().unwrap();
+        c.same((walk.place(), walk.entries()), (place, entries));
+        c.same(walk.convert_raw(raw), Ok(converted));
+        c.same((walk.place(), walk.entries()), (place, entries));
+    }
+    let refused = walk.convert_raw(StartxLength { begin: index(2), length: 1 });
+    c.same((refused, walk.place(), walk.entries()), (Err(EOF), 11, 3));
+    c.same((walk.next(), walk.entries()), (Ok(Some(at(0x1005, 0x1006))), 4));
+    c.same((walk.next(), walk.entries()), (Ok(None), 5));
+    let pair = OffsetPair { begin: 1, end: 2 };
+    c.same((walk.convert_raw(pair), walk.entries()), (Ok(Some(at(0x1001, 0x1002))), 5));
+    c.same((walk.next_raw(), walk.entries()), (Ok(None), 5));
     let mut walk = open_ranges(&[0], encoding(5, 3), 0x100);
     let pair = OffsetPair { begin: 0xff_ff00, end: 0xff_ff10 };
     c.same(walk.convert_raw(pair), Ok(Some(at(0, 0x10))));
@@ -900,6 +995,10 @@ fn location_open(c: &mut Checks) {
     let lists = location_lists(&[0], Little);
     c.same(lists.raw_locations(LocationListsOffset(2), encoding(5, 4)).map(|_| ()), Err(EOF));
     c.same(lists.raw_locations_dwo(LocationListsOffset(2), encoding(4, 4)).map(|_| ()), Err(EOF));
+    let raw = lists.raw_locations_dwo(LocationListsOffset(1), encoding(4, 4));
+    c.same(raw.map(|raw| (raw.place(), raw.entries())), Ok((1, 0)));
+    let walk = open_locations(&[0], encoding(5, 4), false, 0);
+    c.same((walk.place(), walk.entries()), (0, 0));
 }
 
 fn location_next(c: &mut Checks) {
@@ -970,7 +1069,62 @@ fn location_next(c: &mut Checks) {
     c.same(locations(&[7, 0x10, 0], three, false, 0), vec![Err(EOF)]);
     let too_far = join(&[&[3], &PAST_THIRD, &[0, 0]]);
     c.same(locations(&too_far, three, false, 0), vec![Err(Error::UnsupportedOffset)]);
+    locations_counted(c);
 }
+
+/// Entries that count, and those that don't.
+fn locations_counted(c: &mut Checks) {
+    let counted = |bytes: &[u8], encoding, split| {
+        let mut walk = open_locations(bytes, encoding, split, 0);
+        steps(|| {
+            let next = walk.next().map(|found| found.map(|location| location.range));
+            (next, walk.place(), walk.entries())
+        })
+    };
+    let (five, four, end) = (encoding(5, 4), encoding(4, 4), Ok(None));
+    let is = |begin, end| Ok(Some(at(begin, end)));
+    for (encoding, split) in [(five, false), (five, true), (four, true)] {
+        c.same(counted(&[], encoding, split), vec![(end, 0, 0), (end, 0, 0)]);
+        c.same(counted(&[0], encoding, split), vec![(end, 1, 1), (end, 1, 1)]);
+        let unknown = Err(Error::UnknownLocListsEntry(9));
+        c.same(counted(&[9], encoding, split), vec![(unknown, 1, 0), (end, 1, 0), (end, 1, 0)]);
+    }
+    let marked = [7, 0x10, 0, 0, 0, 0x20, 0, 0, 0, 1, 0x50, 0];
+    let whole = vec![(is(0x10, 0x20), 11, 1), (end, 12, 2), (end, 12, 2)];
+    c.same(counted(&marked, five, false), whole);
+    let cut = vec![(is(0x10, 0x20), 11, 1), (end, 11, 1), (end, 11, 1)];
+    c.same(counted(&marked[..11], five, false), cut);
+    c.same(
+        counted(&[6, 0, 0x10, 0, 0, 4, 1, 2, 0, 4, 3, 3, 0, 4, 5, 6, 0, 0, 0xff], five, false),
+        vec![(is(0x1001, 0x1002), 9, 2), (is(0x1005, 0x1006), 17, 4), (end, 19, 5), (end, 19, 5)],
+    );
+    c.same(
+        counted(SPLIT_BASE_AND_PAIRS, four, true),
+        vec![(is(0x1001, 0x1002), 10, 2), (is(0x1005, 0x1006), 20, 4), (end, 22, 5), (end, 22, 5)],
+    );
+    c.same(
+        counted(&[2, 0, 2, 0, 3, 0, 8, 0, 0], five, false),
+        vec![(Err(EOF), 4, 1), (is(0x10, 0x18), 8, 2), (end, 9, 3), (end, 9, 3)],
+    );
+    c.same(
+        counted(&[3, 2, 8, 0, 0, 0, 0, 0, 3, 0, 8, 0, 0, 0, 1, 0, 0x50, 0], four, true),
+        vec![(Err(EOF), 8, 1), (is(0x10, 0x18), 17, 2), (end, 18, 3), (end, 18, 3)],
+    );
+    c.same(
+        counted(&[8, 0x10, 0, 0, 0, 1, 0, 5, 2, 0x50], five, false),
+        vec![(is(0x10, 0x11), 7, 1), (Err(EOF), 10, 1), (end, 10, 1), (end, 10, 1)],
+    );
+    let bare = [0xff, 0x20, 3, 3, 0, 0, 1, 3, 2, 0, 0x50, 0x51, 0, 0, 7];
+    c.same(
+        counted(&bare, encoding(4, 1), false),
+        vec![(is(0x21, 0x23), 12, 3), (end, 15, 4), (end, 15, 4)],
+    );
+}
+
+/// A base, three offset pairs of which the second is empty, and the end mark, of a split list of
+/// DWARF 4.
+const SPLIT_BASE_AND_PAIRS: &[u8] =
+    &[6, 0, 0x10, 0, 0, 4, 1, 2, 0, 0, 4, 3, 3, 0, 0, 4, 5, 6, 0, 0, 0, 0xff];
 
 /// One entry of each kind, size 1, and the end mark.
 const LOCATION_KINDS: &[u8] = &[
@@ -1020,8 +1174,12 @@ fn location_next_raw(c: &mut Checks) {
     let mut walk = lists.raw_locations(LocationListsOffset(0), encoding(5, 1)).unwrap();
     c.same(std::iter::from_fn(|| walk.next().transpose()).map(bytes_of).collect::<Vec<_>>(), kinds);
     let mut walk = open_locations(LOCATION_KINDS, encoding(5, 1), false, 0);
-    let places: Vec<u64> = (0..10).map(|_| walk.next_raw().map_or(0, |_| walk.place())).collect();
-    c.same(places, vec![2, 6, 11, 15, 19, 21, 25, 29, 31, 31]);
+    let counted: Vec<(u64, u64)> =
+        [2, 6, 11, 15, 19, 21, 25, 29, 31].into_iter().zip(1..).collect();
+    let counted = [&counted[..], &[(31, 9)]].concat();
+    c.same(counts(|| (walk.next_raw(), walk.place(), walk.entries())), counted.clone());
+    let mut walk = lists.raw_locations_dwo(LocationListsOffset(0), encoding(5, 1)).unwrap();
+    c.same(counts(|| (walk.next(), walk.place(), walk.entries())), counted);
     let gnu = location_lists(&[3, 1, 2, 0, 0, 0, 0, 0, 0], Little);
     let mut walk = gnu.raw_locations_dwo(LocationListsOffset(0), encoding(4, 1)).unwrap();
     c.same(walk.next().map(|raw| raw.map(Ok).map(bytes_of)), Ok(Some(Ok((3, 1, 2, none, 8)))));
@@ -1082,10 +1240,27 @@ fn location_convert_raw(c: &mut Checks) {
     c.same(walk.convert_raw(DefaultLocation { data }), found(0, u64::MAX));
     c.same(walk.convert_raw(StartEnd { begin: 5, end: 7, data }), found(5, 7));
     c.same(walk.convert_raw(StartLength { begin: 5, length: 7, data }), found(5, 12));
-    // The place has not moved, and the base is the second address.
+    // Place and count have not moved, and the base is the second address.
+    c.same((walk.place(), walk.entries()), (0, 0));
     let raw = walk.next_raw().unwrap().unwrap();
     c.same(walk.convert_raw(raw).map(|l| l.map(told)), Ok(Some((at(0x21, 0x22), &[0x50][..], 4))));
     c.same(walk.next(), Ok(None));
+    let mut walk = open_locations(SPLIT_BASE_AND_PAIRS, encoding(4, 4), true, 0);
+    for (place, entries, converted) in
+        [(5, 1, None), (10, 2, Some(at(0x1001, 0x1002))), (15, 3, None)]
+    {
+        let raw = walk.next_raw().unwrap().unwrap();
+        c.same((walk.place(), walk.entries()), (place, entries));
+        c.same(walk.convert_raw(raw).map(|l| l.map(|l| l.range)), Ok(converted));
+        c.same((walk.place(), walk.entries()), (place, entries));
+    }
+    let refused = walk.convert_raw(StartxLength { begin: index(2), length: 1, data });
+    c.same((refused, walk.place(), walk.entries()), (Err(EOF), 15, 3));
+    c.same(walk.next().map(|l| l.map(|l| l.range)), Ok(Some(at(0x1005, 0x1006))));
+    c.same((walk.entries(), walk.next(), walk.entries()), (4, Ok(None), 5));
+    let pair = OffsetPair { begin: 1, end: 2, data };
+    c.same((walk.convert_raw(pair), walk.entries()), (found(0x1001, 0x1002), 5));
+    c.same((walk.next_raw(), walk.entries()), (Ok(None), 5));
     let mut walk = open_locations(&[0], encoding(5, 3), false, 0x100);
     let pair = OffsetPair { begin: 0xff_ff00, end: 0xff_ff10, data };
     c.same(walk.convert_raw(pair), found(0, 0x10));

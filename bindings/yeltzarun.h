@@ -56,7 +56,7 @@ extern "C" {
 #endif
 
 /* The version of this interface; it changes with every change of a struct, a number or a call. */
-#define YZ_VERSION 4
+#define YZ_VERSION 5
 
 /* The version of the library that is linked; the header is for it where this is YZ_VERSION. */
 uint32_t yz_version(void);
@@ -180,6 +180,7 @@ typedef struct yz_part {
 typedef struct yz_walk {
     uint64_t at;           /* the place of the next entry; from the section's end on there is none */
     uint64_t base_address; /* what the next offset pair is added to */
+    uint64_t entries;      /* how many entries were read since it was opened, the end mark among them; 2^64 - 1 stays */
     uint64_t split;        /* not 0: a location list of a .dwo file, as told at its opening; range lists don't read it */
 } yz_walk;
 
@@ -401,12 +402,17 @@ uint64_t yz_location_default_base(yz_encoding encoding, yz_file_type file_type);
 
 /* ---- Walks. After a refusal of .._next or .._next_raw that is not the address table's the walk is at its end; after a
  * failed lookup in the address table it goes on with the entry that follows. A refusal of .._open or .._convert_raw leaves
- * the walk as it was. ---- */
+ * the walk as it was.
+ *
+ * Opening sets entries to 0. Each entry that .._next or .._next_raw reads adds one, also one that comes to no range or
+ * location, one whose lookup fails, and the end mark: where .._next is done, entries is the number of the entry that the item
+ * is of, counted from 1. A refused entry is not read and adds nothing; nor does the section's end without an end mark, a call
+ * after the end, or .._convert_raw. ---- */
 
 /* Which section a unit's lists stand in: the answer itself. */
 yz_section yz_section_of(yz_encoding encoding);
 
-/* A walk at the begin of a range list. Refused: 6, then 1. */
+/* A walk at the begin of a range list, none of it read. Refused: 6, then 1. */
 yz_done yz_range_open(const uint8_t *section, size_t section_len, yz_encoding encoding, uint64_t offset,
                       uint64_t base_address, yz_walk *walk);
 
@@ -418,11 +424,11 @@ yz_range yz_range_next(const uint8_t *section, size_t section_len, const uint8_t
 yz_raw_range yz_range_next_raw(const uint8_t *section, size_t section_len, yz_encoding encoding, yz_walk *walk);
 
 /* What an entry comes to that yz_range_next_raw gave. Done: a range. Nothing: none, but perhaps another base address in the
- * walk. Refused: 6, then 3 for a kind above 7; 1 and 9 by the address table. */
+ * walk, whose place and entries stay. Refused: 6, then 3 for a kind above 7; 1 and 9 by the address table. */
 yz_range yz_range_convert_raw(const uint8_t *debug_addr, size_t debug_addr_len, uint64_t debug_addr_base,
                               yz_encoding encoding, yz_range_entry entry, yz_walk *walk);
 
-/* A walk at the begin of a location list; it keeps whether the list is split. Refused: 6, then 1. */
+/* A walk at the begin of a location list, none of it read; it keeps whether the list is split. Refused: 6, then 1. */
 yz_done yz_location_open(const uint8_t *section, size_t section_len, yz_encoding encoding, yz_file_type file_type,
                          uint64_t offset, uint64_t base_address, yz_walk *walk);
 
@@ -434,8 +440,8 @@ yz_location yz_location_next(const uint8_t *section, size_t section_len, const u
 yz_raw_location yz_location_next_raw(const uint8_t *section, size_t section_len, yz_encoding encoding, yz_walk *walk);
 
 /* What an entry comes to that yz_location_next_raw gave. Done: a location; the expression is handed on as it came in, whether
- * or not it lies in a section. Nothing: none, but perhaps another base address in the walk. Refused: 6, then 4 for a kind
- * above 8; 1 and 9 by the address table. */
+ * or not it lies in a section. Nothing: none, but perhaps another base address in the walk, whose place and entries stay.
+ * Refused: 6, then 4 for a kind above 8; 1 and 9 by the address table. */
 yz_location yz_location_convert_raw(const uint8_t *debug_addr, size_t debug_addr_len, uint64_t debug_addr_base,
                                     yz_encoding encoding, yz_location_entry entry, yz_walk *walk);
 

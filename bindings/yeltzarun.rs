@@ -30,7 +30,9 @@
 //! while let Some(location) = walk.next()? {
 //!     assert_eq!(location.range, Range { begin: 0x10, end: 0x18 });
 //!     assert_eq!(location.data.bytes(), [0x50]);
+//!     assert_eq!(walk.entries(), 1); // The list's first entry.
 //! }
+//! assert_eq!(walk.entries(), 2); // The end mark is one, too.
 //!
 //! let walk = lists.locations_dwo(offset, encoding, 0, &debug_addr, base)?;
 //! assert_eq!(walk.filter_map(Result::ok).count(), 1);
@@ -92,7 +94,7 @@ pub use rnglists::{RangeLists, RawRngListIter, RngListIter};
 pub use section::{DebugAddr, DebugLoc, DebugLocLists, DebugRanges, DebugRngLists};
 
 /// The version of the interface that this wrapper is for.
-pub const VERSION: u32 = 4;
+pub const VERSION: u32 = 5;
 
 /// The version of the library that is linked. Where it isn't [`VERSION`], its answers can't be
 /// understood.

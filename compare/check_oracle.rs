@@ -80,6 +80,7 @@ fn main() {
     false_friends(&mut check);
     refusals(&mut check);
     rules(&mut check);
+    counts(&mut check);
     open_points(&mut check);
     differences(&mut check);
     println!("{} examples, {} differ", check.run, check.wrong);
@@ -382,14 +383,14 @@ fn rules(c: &mut Check) {
     let b = bytes("01 00 04 01 02 08 00");
     let l = List { base_address: 0x100, ..list(Ranges, &b) };
     let mut w = Walk::open(&l).unwrap();
-    let mut at = |name: &str, answer, place| {
+    let mut at = |name: &str, answer, place, entries| {
         c.same(name, w.next(), answer);
-        c.same(name, w.state(), State { place, base_address: 0x100 });
+        c.same(name, w.state(), State { place, base_address: 0x100, entries });
     };
-    at("failed lookup", refused(1, 0), 2);
-    at("next entry", range(0x101, 0x102), 5);
-    at("raw refusal", refused(3, 8), 7);
-    at("end", Answer::End, 7);
+    at("failed lookup", refused(1, 0), 2, 1);
+    at("next entry", range(0x101, 0x102), 5, 2);
+    at("raw refusal", refused(3, 8), 7, 2);
+    at("end", Answer::End, 7, 2);
 
     // A wrapped-around begin at the bound and a begin not below the end.
     let b = bytes("06 fe ff 06 fd ff 06 20 10 06 20 20 00");
@@ -410,6 +411,86 @@ fn rules(c: &mut Check) {
     c.same("product before size", get_address(&table, false, 3, 0, u64::MAX), Err(no(9, 0)));
     c.same("size before end", get_address(&table, false, 3, 8, 0), Err(no(6, 3)));
     c.same("size 0", get_address(&table, false, 0, 8, u64::MAX), Err(no(6, 0)));
+}
+
+/// How many entries are read: gimli has no count, so these are the counts that
+/// are made with its raw walk.
+fn counts(c: &mut Check) {
+    use Kind::*;
+    let end = Answer::End;
+    // The answers of `next` up to the first end, each with place and count.
+    let mut same = |name: &str, l: &List, stated: &[(Answer<Yielded>, u64, u64)]| {
+        let mut w = Walk::open(l).unwrap();
+        let opened = State { place: l.offset, base_address: l.base_address, entries: 0 };
+        c.same(name, w.state(), opened);
+        for &(answer, place, entries) in stated.iter().chain(&stated[stated.len() - 1..]) {
+            let (got, state) = (w.next(), w.state());
+            c.same(name, (got, state.place, state.entries), (answer, place, entries));
+        }
+        let counted = stated.iter().map(|&(answer, _, entries)| (answer, entries)).collect();
+        c.same(name, walk_counted(l), counted);
+    };
+    for kind in [Ranges, Locations, SplitLocations] {
+        same("counted: nothing", &list(kind, &[]), &[(end, 0, 0)]);
+        same("counted: 00", &list(kind, &[0]), &[(end, 1, 1)]);
+        let l = List { offset: 1, ..list(kind, &[9, 0, 9]) };
+        same("counted: 00 at 1", &l, &[(end, 3, 1)]);
+    }
+    let b = bytes("06 10 00 00 00 20 00 00 00 00");
+    let one = range(0x10, 0x20);
+    same("counted: one", &list(Ranges, &b), &[(one, 9, 1), (end, 10, 2)]);
+    same("counted: no end mark", &list(Ranges, &b[..9]), &[(one, 9, 1), (end, 9, 1)]);
+    let pairs = bytes("05 00 10 00 00 04 01 02 04 03 03 04 05 06 00 ff");
+    let (first, last) = (range(0x1001, 0x1002), range(0x1005, 0x1006));
+    let stated = [(first, 8, 2), (last, 14, 4), (end, 16, 5)];
+    same("counted: base and pairs", &list(Ranges, &pairs), &stated);
+    let table = bytes(TABLE);
+    let b = bytes("02 00 02 03 00 08 00");
+    let l = List { table: &table, table_base: 8, ..list(Ranges, &b) };
+    let stated = [(refused(1, 0), 3, 1), (range(0x10, 0x18), 6, 2), (end, 7, 3)];
+    same("counted: failed lookup", &l, &stated);
+    let b = bytes("07 10 00 00 00 01 08");
+    let stated = [(range(0x10, 0x11), 6, 1), (refused(3, 8), 7, 1), (end, 7, 1)];
+    same("counted: refused", &list(Ranges, &b), &stated);
+    same("counted: 08", &list(Ranges, &[8]), &[(refused(3, 8), 1, 0), (end, 1, 0)]);
+    // One byte more would be an entry.
+    let l = List { address_size: 1, ..list(Ranges, &[6, 0x10]) };
+    same("counted: cut", &l, &[(refused(1, 0), 2, 0), (end, 2, 0)]);
+    let b = bytes("ff ff 00 20 03 00 03 00 01 00 03 00 00 00 00 00 01");
+    let l = List { version: 4, address_size: 2, ..list(Ranges, &b) };
+    same("counted: bare pairs", &l, &[(range(0x2001, 0x2003), 12, 3), (end, 17, 4)]);
+    let l = List { version: 4, address_size: 2, ..list(Ranges, &b[..12]) };
+    let stated = [(range(0x2001, 0x2003), 12, 3), (end, 12, 3)];
+    same("counted: bare pairs, no end mark", &l, &stated);
+    let b = bytes("06 00 10 00 00 04 01 02 00 04 03 03 00 04 05 06 00 00 ff");
+    let (first, last) = (location(0x1001, 0x1002, 9, 0), location(0x1005, 0x1006, 17, 0));
+    let stated = [(first, 9, 2), (last, 17, 4), (end, 19, 5)];
+    same("counted: locations", &list(Locations, &b), &stated);
+    let b = bytes("03 02 08 00 00 00 00 00 03 00 08 00 00 00 01 00 50 00");
+    let l = List { version: 4, table: &table, table_base: 8, ..list(SplitLocations, &b) };
+    let stated = [(refused(1, 0), 8, 1), (location(0x10, 0x18, 16, 1), 17, 2), (end, 18, 3)];
+    same("counted: split locations", &l, &stated);
+
+    // Converting reads nothing.
+    let l = list(Ranges, &pairs);
+    let mut w = Walk::open(&l).unwrap();
+    for (place, entries) in [(5, 1), (8, 2), (11, 3)] {
+        let Answer::Entry(entry) = w.next_raw() else { panic!("no entry") };
+        let stated = (place, entries);
+        for name in ["counted: raw", "counted: converted"] {
+            let state = w.state();
+            c.same(name, (state.place, state.entries), stated);
+            w.convert_raw(entry);
+        }
+    }
+    let counts = |l: &List| walk_raw_counted(l).iter().map(|&(_, entries)| entries).collect();
+    c.same("counted: raw walk", counts(&l), vec![1, 2, 3, 4, 5]);
+    c.same(
+        "counted: raw walk, no end mark",
+        counts(&list(Ranges, &pairs[..14])),
+        vec![1, 2, 3, 4, 4],
+    );
+    c.same("counted: raw walk, cut", counts(&list(Ranges, &pairs[..13])), vec![1, 2, 3, 3, 3]);
 }
 
 fn open_points(c: &mut Check) {
@@ -483,7 +564,8 @@ fn open_points(c: &mut Check) {
     c.same("row 10, wide end", got, Converted::Entry(wide));
     c.same("row 10, base", w.convert_raw(entry(Form::Base, 0x1ff, 0)), Converted::Nothing);
     c.same("row 10, wide base", w.convert_raw(entry(Form::OffsetPair, 1, 2)), Converted::Nothing);
-    c.same("row 10, base kept", w.state(), State { place: 0, base_address: 0x1ff });
+    let stated = State { place: 0, base_address: 0x1ff, entries: 0 };
+    c.same("row 10, base kept", w.state(), stated);
 
     for kind in [Ranges, Locations] {
         for version in 2..=6 {

@@ -3,7 +3,9 @@
 //! are the scope's listed differences: walks with other address sizes, and
 //! list offsets whose sum passes 2^64. They are counted, and the reader is
 //! held to the page there. Where gimli refuses size 3 the reader is held to the
-//! model, and the calls are counted apart, too.
+//! model, and the calls are counted apart, too. How many entries a walk has
+//! read is held to gimli's raw walk, and a count that is handed in to the rule
+//! that it rises by as many, up to 2^64 - 1.
 
 use std::collections::BTreeMap;
 use std::fmt::Debug;
@@ -223,12 +225,13 @@ pub fn compare(port: &impl Added, case: &Case, seed: u64, met: &mut Met) -> Resu
             }
             met.measured_at(list.address_size, |met| {
                 walk(port, &list, seed, met)?;
+                by_hand(port, &list, seed, met)?;
                 lookups(port, &list, seed, met)?;
                 added::list(port, &list, &mut Random::new(seed.rotate_left(16)), false, met)
             })
         }
         Case::Convert(case) => {
-            met.measured_at(case.list.address_size, |met| convert(port, case, met))
+            met.measured_at(case.list.address_size, |met| convert(port, case, seed, met))
         }
         Case::Address(c) => {
             let (t, big, size) = (&c.table, c.big_endian, c.address_size);
@@ -315,8 +318,19 @@ pub fn kind_and_version(list: &List) -> String {
     format!("{:?} {}", list.kind, if list.version <= 4 { "to 4" } else { "from 5" })
 }
 
+/// A count of entries for a walk made by hand: mostly such that the walk comes to
+/// 2^64 - 1, or near it.
+fn count_by_hand(r: &mut Random) -> u64 {
+    match r.below(4) {
+        0 => r.next() >> r.below(64),
+        1 => u64::MAX,
+        _ => u64::MAX - r.below(8),
+    }
+}
+
 /// Walks a list: `next`, or `next_raw` and `convert_raw`, or both by turns;
-/// after the end three calls more.
+/// after the end three calls more. Half of the walks go on with another count
+/// than their opening's.
 pub fn walk(port: &impl Port, list: &List, seed: u64, met: &mut Met) -> Result<(), String> {
     let opened = Walk::open(list);
     let got = port.open(list);
@@ -326,9 +340,15 @@ pub fn walk(port: &impl Port, list: &List, seed: u64, met: &mut Met) -> Result<(
             met.met(format!("open refused {}", refusal.number));
             return met.same("open", &Err(refusal), &got);
         }
-        (Ok(walk), got) => return met.same("open", &Ok(walk.state()), &got),
+        (Ok(mut walk), got) => return met.same("open", &Ok(walk.state()), &got),
     };
     met.same("walk opened", &oracle.state(), &state)?;
+    let r = &mut Random::new(seed ^ COUNT);
+    if r.one_in(1, 2) {
+        state.entries = count_by_hand(r);
+        oracle.from = state.entries;
+        met.met("walk with a count handed in".into());
+    }
     let r = &mut Random::new(!seed);
     let style = r.below(3);
     let what = kind_and_version(list);
@@ -363,8 +383,41 @@ pub fn walk(port: &impl Port, list: &List, seed: u64, met: &mut Met) -> Result<(
     Ok(())
 }
 
-/// A seed's other number: whether its list is tried with another size too.
+/// One call on a walk made by hand, at any place of the section or past its end.
+/// gimli's walk is one that is opened there; past the end it has none, and there
+/// is no entry.
+fn by_hand(port: &impl Port, list: &List, seed: u64, met: &mut Met) -> Result<(), String> {
+    let r = &mut Random::new(!(seed ^ COUNT));
+    let length = list.section().len() as u64;
+    let past = r.one_in(1, 16);
+    let place =
+        if past { length + 1 + (r.next() >> (1 + r.below(63))) } else { r.below(length + 1) };
+    let walk = State { place, base_address: r.next() >> r.below(64), entries: count_by_hand(r) };
+    let next = port.next(list, walk);
+    let next_raw = port.next_raw(list, walk);
+    if past {
+        met.met("walk by hand, past the end".into());
+        met.same("next past the end", &(Answer::End, walk), &next)?;
+        return met.same("next_raw past the end", &(Answer::End, walk), &next_raw);
+    }
+    met.met("walk by hand".into());
+    let list = &List { offset: place, base_address: walk.base_address, ..*list };
+    let opened = || {
+        let mut oracle =
+            Walk::open(list).map_err(|refusal| format!("open by hand: {refusal:?}"))?;
+        oracle.from = walk.entries;
+        Ok::<_, String>(oracle)
+    };
+    let mut oracle = opened()?;
+    met.same("next by hand", &(oracle.next(), oracle.state()), &next)?;
+    let mut oracle = opened()?;
+    met.same("next_raw by hand", &(oracle.next_raw(), oracle.state()), &next_raw)
+}
+
+/// A seed's other numbers: whether its list is tried with another size too, and
+/// the counts that its walks are handed in with.
 const OTHER_SIZE: u64 = 0x6f74686572;
+const COUNT: u64 = 0x636f756e74;
 
 /// A list with an address size that isn't read: refused with 6 at opening,
 /// and by any call on a walk made by hand.
@@ -379,9 +432,9 @@ fn other_size(port: &impl Added, list: &List, seed: u64, met: &mut Met) -> Resul
     met.by_the_page("open, other size", &Err(no), &port.open(list))?;
     met.by_the_page("lookup, other size", &Answer::Refused(no), &port.lookup(list, r.next()))?;
     let length = list.section().len() as u64;
-    let base_address = r.next();
-    let walk = State { place: r.below(length + 2), base_address };
-    let emptied = State { place: length, base_address };
+    let (base_address, entries) = (r.next(), count_by_hand(r));
+    let walk = State { place: r.below(length + 2), base_address, entries };
+    let emptied = State { place: length, ..walk };
     let next = port.next(list, walk);
     met.by_the_page("next, other size", &(Answer::Refused(no), emptied), &next)?;
     let raw = port.next_raw(list, walk);
@@ -396,7 +449,7 @@ fn other_size(port: &impl Added, list: &List, seed: u64, met: &mut Met) -> Resul
 /// that holds the address is the answer.
 fn lookups(port: &impl Port, list: &List, seed: u64, met: &mut Met) -> Result<(), String> {
     let r = &mut Random::new(seed.rotate_left(32));
-    let answers = Walk::answers(list);
+    let answers: Vec<_> = Walk::answers(list).into_iter().map(|(answer, _)| answer).collect();
     for _ in 0..2 {
         let address = match answers[r.below(answers.len() as u64) as usize] {
             Answer::Entry(entry) => match r.below(4) {
@@ -438,8 +491,8 @@ fn convert_one(
     Ok(after)
 }
 
-/// Converts entries made by hand.
-fn convert(port: &impl Port, case: &ConvertCase, met: &mut Met) -> Result<(), String> {
+/// Converts entries made by hand, on a walk with any count.
+fn convert(port: &impl Port, case: &ConvertCase, seed: u64, met: &mut Met) -> Result<(), String> {
     use Form::*;
     let forms = [
         BarePair,
@@ -454,6 +507,7 @@ fn convert(port: &impl Port, case: &ConvertCase, met: &mut Met) -> Result<(), St
     ];
     let list = list_of(&case.list);
     let mut oracle = Walk::open(&list).map_err(|refusal| format!("open: {refusal:?}"))?;
+    oracle.from = count_by_hand(&mut Random::new(seed ^ COUNT));
     let mut state = oracle.state();
     for entry in &case.entries {
         let form = forms[usize::from(entry.form)];
@@ -512,8 +566,8 @@ fn table_walk(
     Ok(())
 }
 
-/// Walks one short list at size 1 as every kind, version 4 and 5, answers
-/// only. Byte order matters where lengths are two or four bytes. One base
+/// Walks one short list at size 1 as every kind, version 4 and 5, answers and
+/// counts. Byte order matters where lengths are two or four bytes. One base
 /// address is below the tombstone bound and lets sums wrap, one is at it.
 pub fn short(port: &impl Port, bytes: &[u8], met: &mut Met) -> Result<(), String> {
     let lists = [
@@ -546,7 +600,7 @@ pub fn short(port: &impl Port, bytes: &[u8], met: &mut Met) -> Result<(), String
     Ok(())
 }
 
-/// `next` up to the end, answers only.
+/// `next` up to the end, answers and counts.
 pub fn answers(port: &impl Port, list: &List, met: &mut Met) -> Result<(), String> {
     let next = |state| port.next(list, state);
     met.measured_at(list.address_size, |met| {
@@ -555,10 +609,10 @@ pub fn answers(port: &impl Port, list: &List, met: &mut Met) -> Result<(), Strin
     })
 }
 
-/// A walk's calls one by one, held against answers that are known.
+/// A walk's calls one by one, held against answers and counts that are known.
 pub fn follow<T: PartialEq + Debug>(
     call: &str,
-    answers: impl IntoIterator<Item = Answer<T>>,
+    answers: impl IntoIterator<Item = (Answer<T>, u64)>,
     opened: Result<State, Refusal>,
     next: impl Fn(State) -> (Answer<T>, State),
     met: &mut Met,
@@ -567,12 +621,15 @@ pub fn follow<T: PartialEq + Debug>(
     let mut state = match opened {
         Ok(state) => state,
         Err(refusal) => {
-            return met.same("open", &answers.next(), &Some(Answer::Refused(refusal)));
+            return met.same("open", &answers.next(), &Some((Answer::Refused(refusal), 0)));
         }
     };
+    if state.entries != 0 {
+        return Err(format!("open: port {state:x?}, of which nothing is read"));
+    }
     for answer in answers {
         let (got, after) = next(state);
-        met.same(call, &answer, &got)?;
+        met.same(call, &answer, &(got, after.entries))?;
         state = after;
     }
     Ok(())

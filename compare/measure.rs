@@ -16,55 +16,74 @@ fn moved<T>((answer, after): (T, State), state: &mut State) -> T {
     answer
 }
 
-/// A walk of gimli's, or the model's.
-pub enum Walk<'a> {
+/// A walk of gimli's, or the model's, and the count that the walk was handed in
+/// with.
+pub struct Walk<'a> {
+    by: By<'a>,
+    pub from: u64,
+}
+
+enum By<'a> {
     Gimli(gimli::Walk<'a>),
     Model(List<'a>, State),
 }
 
 impl<'a> Walk<'a> {
     pub fn open(list: &List<'a>) -> Result<Walk<'a>, Refusal> {
-        if gimli_reads(list.address_size) {
-            return gimli::Walk::open(list).map(Walk::Gimli);
-        }
-        Model.open(list).map(|state| Walk::Model(*list, state))
+        let by = if gimli_reads(list.address_size) {
+            gimli::Walk::open(list).map(By::Gimli)
+        } else {
+            Model.open(list).map(|state| By::Model(*list, state))
+        };
+        by.map(|by| Walk { by, from: 0 })
     }
 
     pub fn next(&mut self) -> Answer<Yielded> {
-        match self {
-            Walk::Gimli(walk) => walk.next(),
-            Walk::Model(list, state) => moved(Model.next(list, *state), state),
+        match &mut self.by {
+            By::Gimli(walk) => walk.next(),
+            By::Model(list, state) => moved(Model.next(list, *state), state),
         }
     }
 
     pub fn next_raw(&mut self) -> Answer<Raw> {
-        match self {
-            Walk::Gimli(walk) => walk.next_raw(),
-            Walk::Model(list, state) => moved(Model.next_raw(list, *state), state),
+        match &mut self.by {
+            By::Gimli(walk) => walk.next_raw(),
+            By::Model(list, state) => moved(Model.next_raw(list, *state), state),
         }
     }
 
     pub fn convert_raw(&mut self, entry: Raw) -> Converted {
-        match self {
-            Walk::Gimli(walk) => walk.convert_raw(entry),
-            Walk::Model(list, state) => moved(Model.convert_raw(list, *state, entry), state),
+        match &mut self.by {
+            By::Gimli(walk) => walk.convert_raw(entry),
+            By::Model(list, state) => moved(Model.convert_raw(list, *state, entry), state),
         }
     }
 
-    pub fn state(&self) -> State {
-        match self {
-            Walk::Gimli(walk) => walk.state(),
-            Walk::Model(_, state) => *state,
-        }
+    /// A count that can't rise stays.
+    pub fn state(&mut self) -> State {
+        let state = match &mut self.by {
+            By::Gimli(walk) => walk.state(),
+            By::Model(_, state) => *state,
+        };
+        State { entries: self.from.saturating_add(state.entries), ..state }
     }
 
-    /// Every answer of `next` up to the first end; a refusal at opening is the
-    /// only one.
-    pub fn answers(list: &List) -> Vec<Answer<Yielded>> {
-        match Walk::open(list) {
-            Ok(mut walk) => trace(usize::MAX, || walk.next()),
-            Err(refusal) => vec![Answer::Refused(refusal)],
+    /// Every answer of `next` up to the first end, and how many raw entries were
+    /// read by then; a refusal at opening is the only one.
+    pub fn answers(list: &List) -> Vec<(Answer<Yielded>, u64)> {
+        if gimli_reads(list.address_size) {
+            return gimli::walk_counted(list);
         }
+        let mut state = match Model.open(list) {
+            Ok(state) => state,
+            Err(refusal) => return vec![(Answer::Refused(refusal), 0)],
+        };
+        let mut answers = Vec::new();
+        while !matches!(answers.last(), Some((Answer::End, _))) {
+            let answer = moved(Model.next(list, state), &mut state);
+            answers.push((answer, state.entries));
+        }
+        answers
     }
 }
 

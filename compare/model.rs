@@ -246,7 +246,7 @@ impl Port for Model {
     fn open(&self, list: &List) -> Result<State, Refusal> {
         walkable(list)?;
         Bytes::at(chosen(list), list.offset, list.big_endian)?;
-        Ok(State { place: list.offset, base_address: list.base_address })
+        Ok(State { place: list.offset, base_address: list.base_address, entries: 0 })
     }
 
     fn next(&self, list: &List, mut walk: State) -> (Answer<Yielded>, State) {
@@ -277,9 +277,12 @@ impl Port for Model {
             return (Answer::End, walk);
         }
         let mut bytes = Bytes { all: section, at: walk.place as usize, big: list.big_endian };
+        let entries = walk.entries.saturating_add(1);
         match raw(list, &mut bytes) {
-            Ok(Some(entry)) => (Answer::Entry(entry), State { place: bytes.at as u64, ..walk }),
-            Ok(None) => (Answer::End, emptied),
+            Ok(Some(entry)) => {
+                (Answer::Entry(entry), State { place: bytes.at as u64, entries, ..walk })
+            }
+            Ok(None) => (Answer::End, State { entries, ..emptied }),
             Err(refusal) => (Answer::Refused(refusal), emptied),
         }
     }

@@ -1,7 +1,8 @@
 //! gimli's readers as plain calls: byte slices and numbers in, comparable
 //! values out. Every call goes to gimli's own code over
 //! `EndianSlice<RunTimeEndian>`; nothing is computed here but names, numbers of
-//! refusals, and places counted from a section's start.
+//! refusals, places counted from a section's start, and how many raw entries
+//! gimli's raw walk reads.
 //!
 //! Walks with an address size other than 1, 2, 4, 8 are outside the
 //! comparison, since gimli refuses each address there: the scope lists them as a
@@ -142,11 +143,13 @@ pub struct List<'a> {
 }
 
 /// Where a walk stands: the place of its next byte (the section's length when
-/// emptied) and its base address.
+/// emptied), its base address, and how many raw entries were read since it was
+/// opened, the end mark among them.
 #[derive(Debug, Clone, Copy, PartialEq, Eq, Hash)]
 pub struct State {
     pub place: u64,
     pub base_address: u64,
+    pub entries: u64,
 }
 
 /// A header of a lists section. `rest` is what the header's length leaves
@@ -243,12 +246,11 @@ fn number_after(text: &str, name: &str) -> u64 {
     digits.parse().expect("a number")
 }
 
-fn state_of(section: &[u8], walk: &impl Debug) -> State {
+/// A walk's place and its base address.
+fn stands(section: &[u8], walk: &impl Debug) -> (u64, u64) {
     let text = format!("{walk:?}");
-    State {
-        place: (section.len() - bytes_left(&text)) as u64,
-        base_address: number_after(&text, "base_address: "),
-    }
+    let place = section.len() - bytes_left(&text);
+    (place as u64, number_after(&text, "base_address: "))
 }
 
 fn raw(form: Form, first: u64, second: u64) -> Raw {
@@ -378,11 +380,15 @@ enum Walking<'a> {
     Locations(LocListIter<Slice<'a>>),
 }
 
-/// `RngListIter` or `LocListIter`.
+/// `RngListIter` or `LocListIter`, and beside it the raw walk that its entries
+/// are counted with: its place, and how many it has read.
 pub struct Walk<'a> {
     section: &'a [u8],
     big_endian: bool,
     walking: Walking<'a>,
+    raw: RawWalk<'a>,
+    counted_to: u64,
+    entries: u64,
 }
 
 impl<'a> Walk<'a> {
@@ -410,6 +416,9 @@ impl<'a> Walk<'a> {
             section: list.section(),
             big_endian: list.big_endian,
             walking: walking.map_err(refusal)?,
+            raw: RawWalk::open(list)?,
+            counted_to: list.offset,
+            entries: 0,
         })
     }
 
@@ -447,12 +456,22 @@ impl<'a> Walk<'a> {
         }
     }
 
-    /// Where the walk stands. Slower than a reading call.
-    pub fn state(&self) -> State {
-        match &self.walking {
-            Walking::Ranges(walk) => state_of(self.section, walk),
-            Walking::Locations(walk) => state_of(self.section, walk),
+    /// Where the walk stands. Slower than a reading call. gimli has no count, so
+    /// its raw walk of the list is led up to the place. At an end mark and at the
+    /// section's end that walk answers the same; but it is called only where
+    /// bytes are left, so that its end is a mark.
+    pub fn state(&mut self) -> State {
+        let (place, base_address) = match &self.walking {
+            Walking::Ranges(walk) => stands(self.section, walk),
+            Walking::Locations(walk) => stands(self.section, walk),
+        };
+        while self.counted_to < place {
+            let read = !matches!(self.raw.next(), Answer::Refused(_));
+            self.entries += u64::from(read);
+            self.counted_to = self.raw.place();
         }
+        assert_eq!(self.counted_to, place);
+        State { place, base_address, entries: self.entries }
     }
 }
 
@@ -505,6 +524,72 @@ impl<'a> RawWalk<'a> {
         };
         (self.section.len() - bytes_left(&text)) as u64
     }
+}
+
+/// Whether gimli's raw walk of a list ends at an end mark. At the section's end
+/// it answers the same; but there it refuses a byte ff that is put behind the
+/// list, for that is neither a kind nor a pair of addresses.
+fn marked(list: &List<'_>) -> bool {
+    let longer = [list.section(), &[0xff]].concat();
+    ends(list) && ends(&List { old: &longer, new: &longer, ..*list })
+}
+
+/// Whether gimli's raw walk of a list refuses nothing.
+fn ends(list: &List<'_>) -> bool {
+    let Ok(mut walk) = RawWalk::open(list) else { return false };
+    loop {
+        match walk.next() {
+            Answer::Entry(_) => {}
+            Answer::End => return true,
+            Answer::Refused(_) => return false,
+        }
+    }
+}
+
+/// Every answer of `next` from opening up to the first end, each with how many
+/// raw entries were read by then: those that `next_raw` and `convert_raw` of
+/// another walk take to come there. A refusal at opening is the only answer.
+pub fn walk_counted(list: &List<'_>) -> Vec<(Answer<Yielded>, u64)> {
+    let (mut walk, mut by_entry) = match (Walk::open(list), Walk::open(list)) {
+        (Ok(walk), Ok(by_entry)) => (walk, by_entry),
+        (Err(refusal), _) | (_, Err(refusal)) => return vec![(Answer::Refused(refusal), 0)],
+    };
+    let mut entries = 0;
+    let mut answers = Vec::new();
+    while !matches!(answers.last(), Some((Answer::End, _))) {
+        let answer = walk.next();
+        loop {
+            match by_entry.next_raw() {
+                Answer::Entry(entry) => {
+                    entries += 1;
+                    if by_entry.convert_raw(entry) != Converted::Nothing {
+                        break;
+                    }
+                }
+                Answer::End => {
+                    entries += u64::from(marked(list));
+                    break;
+                }
+                Answer::Refused(_) => break,
+            }
+        }
+        answers.push((answer, entries));
+    }
+    answers
+}
+
+/// The same for `next_raw`.
+pub fn walk_raw_counted(list: &List<'_>) -> Vec<(Answer<Raw>, u64)> {
+    let mut entries = 0;
+    let counted = walk_raw(list, usize::MAX).into_iter().map(|answer| {
+        entries += match answer {
+            Answer::Entry(_) => 1,
+            Answer::End => u64::from(marked(list)),
+            Answer::Refused(_) => 0,
+        };
+        (answer, entries)
+    });
+    counted.collect()
 }
 
 /// Every answer of `next` from opening up to the first end, at most `most`.

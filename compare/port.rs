@@ -97,12 +97,13 @@ fn split(list: &List) -> u64 {
 }
 
 fn walk(list: &List, state: State) -> Walk {
-    Walk { at: state.place, base_address: state.base_address, split: split(list) }
+    let State { place: at, base_address, entries } = state;
+    Walk { at, base_address, entries, split: split(list) }
 }
 
 fn state(list: &List, walk: Walk) -> State {
     assert!(walk.split == split(list));
-    State { place: walk.at, base_address: walk.base_address }
+    State { place: walk.at, base_address: walk.base_address, entries: walk.entries }
 }
 
 fn range(range: Range) -> Yielded {
@@ -166,7 +167,7 @@ impl Port for Ffi {
     fn open(&self, list: &List) -> Result<State, Refusal> {
         let (s, n, ..) = lent(list);
         let (encoding, offset, base) = (encoding(list), list.offset, list.base_address);
-        let untouched = Walk { at: OLD, base_address: OLD, split: OLD };
+        let untouched = Walk { at: OLD, base_address: OLD, entries: OLD, split: OLD };
         let mut walk = untouched;
         let opened = if list.kind == Kind::Ranges {
             unsafe { yz_range_open(s, n, encoding, offset, base, &mut walk) }
@@ -178,7 +179,7 @@ impl Port for Ffi {
         assert!(opened.is_ok() || walk == untouched);
         opened.map(|()| {
             assert!(walk.split == u64::from(file_type(list)));
-            State { place: walk.at, base_address: walk.base_address }
+            State { place: walk.at, base_address: walk.base_address, entries: walk.entries }
         })
     }
 

@@ -156,7 +156,7 @@ fn walk(port: &impl Port, list: &List, row: &mut Row, walked: &mut Walked) {
     let (mut oracle, mut state) = match (opened, got) {
         (Ok(oracle), Ok(state)) => (oracle, state),
         (opened, got) => {
-            row.same("open", &opened.map(|walk| walk.state()), &got);
+            row.same("open", &opened.map(|mut walk| walk.state()), &got);
             walked.refused = true;
             return;
         }

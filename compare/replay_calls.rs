@@ -162,8 +162,14 @@ fn yielded(entry: Yielded) -> String {
     }
 }
 
-fn stands(state: State) -> String {
-    format!(" at {:x} base {:x}", state.place, state.base_address)
+fn stands(place: u64, base_address: u64) -> String {
+    format!(" at {place:x} base {base_address:x}")
+}
+
+/// The crate prints no count of entries, for gimli has none.
+fn walk_stands(walk: &mut Walk) -> String {
+    let state = walk.state();
+    stands(state.place, state.base_address)
 }
 
 /// How many calls a walk still gets: one more after the end was said.
@@ -210,27 +216,24 @@ impl Lines<'_> {
     }
 
     /// What an entry says, with two zeros for an expression that it lacks.
-    fn raw(&mut self, list: &List, entry: Raw, state: State) {
+    fn raw(&mut self, list: &List, entry: Raw, stands: &str) {
         let mut line = format!("{} {:x} {:x}", form(entry.form), entry.first, entry.second);
         if list.kind != Kind::Ranges {
             line += &expression(entry.expression.unwrap_or(Place { offset: 0, length: 0 }));
         }
-        self.put(form(entry.form), line + &stands(state));
+        self.put(form(entry.form), line + stands);
     }
 
     fn convert(&mut self, walk: &mut Walk, entry: Raw) {
         let about = format!("{}: ", form(entry.form));
         match walk.convert_raw(entry) {
             Converted::Entry(got) => {
-                self.put(&format!("{about}yielded"), yielded(got) + &stands(walk.state()));
+                self.put(&format!("{about}yielded"), yielded(got) + &walk_stands(walk));
             }
             Converted::Nothing => {
-                self.put(
-                    &format!("{about}nothing"),
-                    String::from("nothing") + &stands(walk.state()),
-                );
+                self.put(&format!("{about}nothing"), String::from("nothing") + &walk_stands(walk));
             }
-            Converted::Refused(refusal) => self.refused(&about, refusal, stands(walk.state())),
+            Converted::Refused(refusal) => self.refused(&about, refusal, walk_stands(walk)),
         }
     }
 
@@ -239,28 +242,28 @@ impl Lines<'_> {
             Ok(walk) => walk,
             Err(refusal) => return self.refused("open: ", refusal, String::new()),
         };
-        self.put("opened", String::from("opened") + &stands(walk.state()));
+        self.put("opened", String::from("opened") + &walk_stands(&mut walk));
         let mut left = CALLS;
         while 0 < left {
             let ended = if style == NEXT {
                 let answer = walk.next();
-                let state = stands(walk.state());
+                let stands = walk_stands(&mut walk);
                 match answer {
-                    Answer::Entry(entry) => self.put("yielded", yielded(entry) + &state),
-                    Answer::End => self.put("end", String::from("end") + &state),
-                    Answer::Refused(refusal) => self.refused("", refusal, state),
+                    Answer::Entry(entry) => self.put("yielded", yielded(entry) + &stands),
+                    Answer::End => self.put("end", String::from("end") + &stands),
+                    Answer::Refused(refusal) => self.refused("", refusal, stands),
                 }
                 answer == Answer::End
             } else {
                 let answer = walk.next_raw();
-                let state = walk.state();
+                let stands = walk_stands(&mut walk);
                 match answer {
                     Answer::Entry(entry) => {
-                        self.raw(list, entry, state);
+                        self.raw(list, entry, &stands);
                         self.convert(&mut walk, entry);
                     }
-                    Answer::End => self.put("end", String::from("end") + &stands(state)),
-                    Answer::Refused(refusal) => self.refused("", refusal, stands(state)),
+                    Answer::End => self.put("end", String::from("end") + &stands),
+                    Answer::Refused(refusal) => self.refused("", refusal, stands),
                 }
                 answer == Answer::End
             };
@@ -273,16 +276,15 @@ impl Lines<'_> {
             Ok(walk) => walk,
             Err(refusal) => return self.refused("open: ", refusal, String::new()),
         };
-        let state = |walk: &RawWalk| State { place: walk.place(), base_address: 0 };
-        self.put("opened", String::from("opened") + &stands(state(&walk)));
+        self.put("opened", String::from("opened") + &stands(walk.place(), 0));
         let mut left = CALLS;
         while 0 < left {
             let answer = walk.next();
-            let state = state(&walk);
+            let stands = stands(walk.place(), 0);
             match answer {
-                Answer::Entry(entry) => self.raw(list, entry, state),
-                Answer::End => self.put("end", String::from("end") + &stands(state)),
-                Answer::Refused(refusal) => self.refused("", refusal, stands(state)),
+                Answer::Entry(entry) => self.raw(list, entry, &stands),
+                Answer::End => self.put("end", String::from("end") + &stands),
+                Answer::Refused(refusal) => self.refused("", refusal, stands),
             }
             left = fewer(left, answer == Answer::End);
         }

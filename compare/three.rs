@@ -10,7 +10,7 @@ use crate::built;
 use crate::differ::{self, Met, Port, follow, kind_and_version, list_of};
 
 /// Walks one short list as every kind, version 4 and 5, in both orders, answers
-/// only. No address fits in, so the list is also walked as what follows the
+/// and counts. No address fits in, so the list is also walked as what follows the
 /// beginning of an entry: its first byte is the last one of an address.
 pub fn short(port: &impl Port, bytes: &[u8], met: &mut Met) -> Result<(), String> {
     let lists = [
@@ -62,12 +62,12 @@ pub fn compare(port: &impl Added, case: &Case, seed: u64, met: &mut Met) -> Resu
 /// gimli's own walk of a list, up to where it refuses the size.
 pub fn up_to_an_address(port: &impl Port, case: &ListCase, met: &mut Met) -> Result<(), String> {
     let list = &list_of(case);
-    let answers = gimli::walk(list, usize::MAX).into_iter();
-    let answers = answers.take_while(|answer| *answer != Answer::Refused(THREE));
+    let answers = gimli::walk_counted(list).into_iter();
+    let answers = answers.take_while(|(answer, _)| *answer != Answer::Refused(THREE));
     let next = |state| port.next(list, state);
     follow("next", answers, port.open(list), next, met)?;
-    let answers = gimli::walk_raw(list, usize::MAX).into_iter();
-    let answers = answers.take_while(|answer| *answer != Answer::Refused(THREE));
+    let answers = gimli::walk_raw_counted(list).into_iter();
+    let answers = answers.take_while(|(answer, _)| *answer != Answer::Refused(THREE));
     let next = |state| port.next_raw(list, state);
     follow("next_raw", answers, port.open(list), next, met)
 }
@@ -86,13 +86,15 @@ pub fn widened(
         return Ok(());
     };
     met.met(format!("widened {}", kind_and_version(three)));
-    let told = gimli::walk(four, usize::MAX).into_iter().map(|answer| yielded(four, answer));
+    let told = gimli::walk_counted(four).into_iter();
+    let told = told.map(|(answer, entries)| (yielded(four, answer), entries));
     let next = |state| {
         let (got, after) = port.next(three, state);
         (yielded(three, got), after)
     };
     follow("next", told, port.open(three), next, met)?;
-    let told = gimli::walk_raw(four, usize::MAX).into_iter().map(|answer| raw(four, answer));
+    let told = gimli::walk_raw_counted(four).into_iter();
+    let told = told.map(|(answer, entries)| (raw(four, answer), entries));
     let next = |state| {
         let (got, after) = port.next_raw(three, state);
         (raw(three, got), after)

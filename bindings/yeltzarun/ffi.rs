@@ -58,7 +58,7 @@ macro_rules! structs {
 structs! {
     Encoding { version: u16, address_size: u8, dwarf64: bool, big_endian: u32, }
     Part { offset: u64, length: u64, }
-    Walk { at: u64, base_address: u64, split: u64, }
+    Walk { at: u64, base_address: u64, entries: u64, split: u64, }
     RangeEntry { kind: u64, first: u64, second: u64, }
     LocationEntry { kind: u64, first: u64, second: u64, expression: Part, }
 
@@ -95,7 +95,7 @@ macro_rules! pinned {
 pinned! {
     Encoding: 8, version 0, address_size 2, dwarf64 3, big_endian 4;
     Part: 16, offset 0, length 8;
-    Walk: 24, at 0, base_address 8, split 16;
+    Walk: 32, at 0, base_address 8, entries 16, split 24;
     RangeEntry: 24, kind 0, first 8, second 16;
     LocationEntry: 40, kind 0, first 8, second 16, expression 24;
     Done: 16, result 0, refusal 4, refusal_value 8, item 16;

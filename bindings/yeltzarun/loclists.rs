@@ -276,6 +276,12 @@ impl<'a> RawLocListIter<'a> {
     pub fn place(&self) -> u64 {
         self.walk.at
     }
+
+    /// How many entries the walk has read since it was opened, the end mark among them; a refused
+    /// entry isn't read.
+    pub fn entries(&self) -> u64 {
+        self.walk.entries
+    }
 }
 
 /// A walk over the locations of a location list.
@@ -307,6 +313,14 @@ impl<'a> LocListIter<'a> {
     /// Where the walk stands in its section: behind the entry read last, or at the section's end.
     pub fn place(&self) -> u64 {
         self.raw.place()
+    }
+
+    /// How many entries the walk has read since it was opened: the number of the entry that the
+    /// last location is of, counted from 1. Entries count that come to no location or whose lookup in
+    /// the address table fails, and the end mark; a refused entry isn't read, and `convert_raw`
+    /// reads none.
+    pub fn entries(&self) -> u64 {
+        self.raw.entries()
     }
 
     /// What an entry comes to: a location, or none. The walk's base address may change.

@@ -240,6 +240,12 @@ impl<'a> RawRngListIter<'a> {
     pub fn place(&self) -> u64 {
         self.walk.at
     }
+
+    /// How many entries the walk has read since it was opened, the end mark among them; a refused
+    /// entry isn't read.
+    pub fn entries(&self) -> u64 {
+        self.walk.entries
+    }
 }
 
 /// A walk over the ranges of a range list.
@@ -270,6 +276,14 @@ impl RngListIter<'_> {
     /// Where the walk stands in its section: behind the entry read last, or at the section's end.
     pub fn place(&self) -> u64 {
         self.raw.place()
+    }
+
+    /// How many entries the walk has read since it was opened: the number of the entry that the
+    /// last range is of, counted from 1. Entries count that come to no range or whose lookup in
+    /// the address table fails, and the end mark; a refused entry isn't read, and `convert_raw`
+    /// reads none.
+    pub fn entries(&self) -> u64 {
+        self.raw.entries()
     }
 
     /// What an entry comes to: a range, or none. The walk's base address may change.

@@ -24,7 +24,7 @@ use Rattle.entries.specs.Forms.{stop, entry}
 use Rattle.entries.specs.Kinds.{rangeEntry, moved, rawRange}
 use Rattle.entries.specs.declared.RawRngListEntry.the-variants.{StartLength}
 use Rattle.entries.proofs.KindLaws.{start-length-range, end-of-ranges, range-coded, raw-there}
-use Rattle.lists.specs.Open.{walkAt}
+use Rattle.lists.specs.Open.{walkAt, readTo}
 use Rattle.lists.specs.Convert.{range, convert, tableAt}
 use Rattle.lists.specs.Walk.{ranges, item, Trace, over, trace, handed}
 use Rattle.lists.specs.Walks.{InBounds}
@@ -117,17 +117,18 @@ turn-back table base b e small =
     rw (start-length-is table 8 base b (e - b), s, lt-leb (2 ^ 64 - 2) b (small .1), lt-leb e b (small .0))
 
 -- what a canonical list does: it hands out each range, with the walk after its entry; then it is over
-abbrev pub handsOut : ℕ → ℕ → ℕ → List Range → Trace Unit
-handsOut len base at [] = over (walkAt len base)
-handsOut len base at (r ∷ rs) =
-    handed (gives (item (r .0) (r .1) tt)) (walkAt (at + length (entryBytes r)) base) (handsOut len base (at + length (entryBytes r)) rs)
+abbrev pub handsOut : ℕ → Walk → List Range → Trace Unit
+handsOut len w [] = over (readTo len w)
+handsOut len w (r ∷ rs) =
+    let v = readTo (w .at + length (entryBytes r)) w in
+    handed (gives (item (r .0) (r .1) tt)) v (handsOut len v rs)
 
 bytes-some : (rs : List Range) → 1 ≤ length (canonicalBytes rs)
 unfolding canonicalBytes
 bytes-some [] = omega arith
 bytes-some (r ∷ rs) = omega (arith, length-append (entryBytes r) (canonicalBytes rs), bytes-some rs)
 
-module _ (format : Format) (s : List ℕ) (table : DebugAddrIndex → Result ℕ) (base : ℕ) where
+module _ (format : Format) (s : List ℕ) (table : DebugAddrIndex → Result ℕ) where
   moves : (at : ℕ) → at < length s → Moved at (length s) (rawRange (canonicalEncoding format) Little s at)
   moves = listed-past false false (canonicalEncoding format) Little s
 
@@ -142,26 +143,26 @@ module _ (format : Format) (s : List ℕ) (table : DebugAddrIndex → Result ℕ
       ∙ ap (moved at) (entry-back format r rest small)
       ∙ ap (λ (n : ℕ). gives (got (entry (StartLength (r .0) (r .1 - r .0))) (at + n))) (sym (entry-length r))
 
-  walked-from : (rs : List Range) → Small rs → (at : ℕ) → drop at s ≡ canonicalBytes rs
-      → trace (ranges (canonicalEncoding format) Little s) table 8 (length s) (walkAt at base) ≡ handsOut (length s) base at rs
+  walked-from : (rs : List Range) → Small rs → (w : Walk) → drop (w .at) s ≡ canonicalBytes rs
+      → trace (ranges (canonicalEncoding format) Little s) table 8 (length s) w ≡ handsOut (length s) w rs
   unfolding canonicalBytes
-  walked-from [] small at d =
-      let h = inside [] at d in
-      met-end (ranges (canonicalEncoding format) Little s) table 8 (length s) moves (walkAt at base) h
-      (raw-there (rangeEntry (canonicalEncoding format) Little) s at h ∙ ap (λ (l : List ℕ). moved at (rangeEntry (canonicalEncoding format) Little l)) d ∙ ap (moved at) (end-back format))
-  walked-from (r ∷ rs) small at d =
-      let h = inside (r ∷ rs) at d in
-      let c = at + length (entryBytes r) in
-      let rest : drop c s ≡ canonicalBytes rs = sym (drop-drop (length (entryBytes r)) at s) ∙ ap (drop (length (entryBytes r))) d ∙ drop-append-seam (entryBytes r) (canonicalBytes rs) in
-      met-entry (ranges (canonicalEncoding format) Little s) table 8 (length s) moves (walkAt at base) h
-      (read-entry at r (canonicalBytes rs) (small .0) h d) (turn-back table base (r .0) (r .1) (small .0))
-      ∙ ap (handed (gives (item (r .0) (r .1) tt)) (walkAt c base)) (walked-from rs (small .1) c rest)
+  walked-from [] small w d =
+      let h = inside [] (w .at) d in
+      met-end (ranges (canonicalEncoding format) Little s) table 8 (length s) moves w h
+      (raw-there (rangeEntry (canonicalEncoding format) Little) s (w .at) h ∙ ap (λ (l : List ℕ). moved (w .at) (rangeEntry (canonicalEncoding format) Little l)) d ∙ ap (moved (w .at)) (end-back format))
+  walked-from (r ∷ rs) small w d =
+      let h = inside (r ∷ rs) (w .at) d in
+      let c = w .at + length (entryBytes r) in
+      let rest : drop c s ≡ canonicalBytes rs = sym (drop-drop (length (entryBytes r)) (w .at) s) ∙ ap (drop (length (entryBytes r))) d ∙ drop-append-seam (entryBytes r) (canonicalBytes rs) in
+      met-entry (ranges (canonicalEncoding format) Little s) table 8 (length s) moves w h
+      (read-entry (w .at) r (canonicalBytes rs) (small .0) h d) (turn-back table (w .«base_address») (r .0) (r .1) (small .0))
+      ∙ ap (handed (gives (item (r .0) (r .1) tt)) (readTo c w)) (walked-from rs (small .1) (readTo c w) rest)
 
 -- a canonical list walked as the DWARF 5 range list of size 8 that it is, with any base address and any address table: each
 -- range in order, then over
 pub walked-back : (format : Format) (rs : List Range) → Small rs → (table : DebugAddrIndex → Result ℕ) (base : ℕ)
-    → trace (ranges (canonicalEncoding format) Little (canonicalBytes rs)) table 8 (length (canonicalBytes rs)) (walkAt 0 base) ≡ handsOut (length (canonicalBytes rs)) base 0 rs
-walked-back format rs small table base = walked-from format (canonicalBytes rs) table base rs small 0 refl
+    → trace (ranges (canonicalEncoding format) Little (canonicalBytes rs)) table 8 (length (canonicalBytes rs)) (walkAt 0 base 0) ≡ handsOut (length (canonicalBytes rs)) (walkAt 0 base 0) rs
+walked-back format rs small table base = walked-from format (canonicalBytes rs) table rs small (walkAt 0 base 0) refl
 
 -- canonical bytes are bytes
 entry-bytes : (r : Range) → InBounds 8 (r .0) (r .1) → (i : ℕ) → getD (entryBytes r) i 0 < 256
@@ -177,18 +178,18 @@ canonical-bytes [] small (suc i) = omega arith
 canonical-bytes (r ∷ rs) small i = append-bytes (entryBytes r) (canonicalBytes rs) (entry-bytes r (small .0)) (canonical-bytes rs (small .1)) i
 
 -- what a canonical list yields
-out-unrefused : (len base at : ℕ) (rs : List Range) → Unrefused (handsOut len base at rs)
-out-unrefused len base at [] = tt
-out-unrefused len base at (r ∷ rs) = out-unrefused len base (at + length (entryBytes r)) rs
+out-unrefused : (len : ℕ) (w : Walk) (rs : List Range) → Unrefused (handsOut len w rs)
+out-unrefused len w [] = tt
+out-unrefused len w (r ∷ rs) = out-unrefused len (readTo (w .at + length (entryBytes r)) w) rs
 
-out-ranges : (len base at : ℕ) (rs : List Range) → handedOut (handsOut len base at rs) ≡ rs
-out-ranges len base at [] = refl
-out-ranges len base at (r ∷ rs) = ap (λ (l : List Range). r ∷ l) (out-ranges len base (at + length (entryBytes r)) rs)
+out-ranges : (len : ℕ) (w : Walk) (rs : List Range) → handedOut (handsOut len w rs) ≡ rs
+out-ranges len w [] = refl
+out-ranges len w (r ∷ rs) = ap (λ (l : List Range). r ∷ l) (out-ranges len (readTo (w .at + length (entryBytes r)) w) rs)
 
-out-yields : (len base : ℕ) (rs : List Range) → length rs ≤ limit → yieldedIn limit (handsOut len base 0 rs) ≡ gives rs
-out-yields len base rs few =
-    let e = out-ranges len base 0 rs in
-    yielded-all limit (handsOut len base 0 rs) (out-unrefused len base 0 rs) (rw e few) ∙ ap gives e
+out-yields : (len : ℕ) (w : Walk) (rs : List Range) → length rs ≤ limit → yieldedIn limit (handsOut len w rs) ≡ gives rs
+out-yields len w rs few =
+    let e = out-ranges len w rs in
+    yielded-all limit (handsOut len w rs) (out-unrefused len w rs) (rw e few) ∙ ap gives e
 
 pub canonical-yields : (format : Format) (rs : List Range) → Small rs → length rs ≤ limit → (base : ℕ) (table : List ℕ) (tableBase : DebugAddrBase)
     → yieldedOf (readBack format (canonicalBytes rs) base table tableBase) ≡ gives rs
@@ -196,5 +197,5 @@ canonical-yields format rs small few base table tableBase =
     let x = readBack format (canonicalBytes rs) base table tableBase in
     yielded-is x
     ∙ ap (λ (o : Result Walk). andThen o (λ w. yieldedIn limit (traceOf x w))) (opened-list (canonicalEncoding format) (canonicalBytes rs) 0 base size-8 (omega arith))
-    ∙ ap (yieldedIn limit) (trace-is x (walkAt 0 base) ∙ walked-back format rs small (tableAt Little (canonicalEncoding format) tableBase table) base)
-    ∙ out-yields (length (canonicalBytes rs)) base rs few
+    ∙ ap (yieldedIn limit) (trace-is x (walkAt 0 base 0) ∙ walked-back format rs small (tableAt Little (canonicalEncoding format) tableBase table) base)
+    ∙ out-yields (length (canonicalBytes rs)) (walkAt 0 base 0) rs few

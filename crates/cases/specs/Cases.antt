@@ -28,7 +28,8 @@ use Rattle.entries.specs.Forms.{versionedLength, block}
 use Rattle.entries.specs.Kinds.{rangeKinds, locationKinds, kindOf, coded, ofPair, bare, rangeEntry, locationEntry, rawAt}
 use Rattle.entries.specs.declared.Expression.{Expression}
 use Rattle.lists.specs.Convert.{convert, tableAt}
-use Rattle.lists.specs.Open.{walkAt, opened}
+use Rattle.lists.specs.Open.{walkAt, oneMore, opened}
+use Rattle.lists.specs.Counted.{leftBy}
 use Rattle.lists.specs.Walk.{ranges, locations, Item, item, Trace, over, traceFrom, trace, next, nextRange, handed}
 use Rattle.lists.specs.declared.Walk.{Walk}
 
@@ -36,22 +37,22 @@ abbrev pub enc : ℕ → ℕ → Encoding
 enc version size = record { «address_size» = size; format = Dwarf32; version = version }
 
 -- the address table of docs/SCOPE.md; its addresses start at 8
-abbrev table : List ℕ
+abbrev pub table : List ℕ
 table = 0x0c ∷ 0x00 ∷ 0x00 ∷ 0x00 ∷ 0x05 ∷ 0x00 ∷ 0x04 ∷ 0x00 ∷ 0x10 ∷ 0x00 ∷ 0x00 ∷ 0x00 ∷ 0x20 ∷ 0x00 ∷ 0x00 ∷ 0x00 ∷ []
 
 -- a list by its byte order, its address table and that table's base, then version, address size, bytes, offset and base address
 unfoldable pub rangesIn : RunTimeEndian → List ℕ → ℕ → ℕ → ℕ → List ℕ → ℕ → ℕ → Result (Trace Unit)
-unfolding opened trace traceFrom convert addressAt rowAt rangeEntry rawAt coded bare ofPair kindOf rangeKinds address skip uint isSize little unsigned unsignedFrom
+unfolding opened oneMore trace traceFrom convert addressAt rowAt rangeEntry rawAt coded bare ofPair kindOf rangeKinds address skip uint isSize little unsigned unsignedFrom
 rangesIn endian t b version size s offset base =
     andThen (opened (enc version size) s offset base)
     (λ w. gives (trace (ranges (enc version size) endian s) (tableAt endian (enc version size) (record { 0 = b }) t) size (length s) w))
 
-abbrev range : ℕ → ℕ → List ℕ → ℕ → ℕ → Result (Trace Unit)
+abbrev pub range : ℕ → ℕ → List ℕ → ℕ → ℕ → Result (Trace Unit)
 range version size s offset base = rangesIn Little table 8 version size s offset base
 
 unfoldable pub location : Bool → ℕ → ℕ → List ℕ → ℕ → ℕ → Result (Trace Expression)
 unfolding
-    opened trace traceFrom convert addressAt rowAt locationEntry rawAt coded bare ofPair kindOf locationKinds versionedLength block split address skip uint isSize little unsigned unsignedFrom
+    opened oneMore trace traceFrom convert addressAt rowAt locationEntry rawAt coded bare ofPair kindOf locationKinds versionedLength block split address skip uint isSize little unsigned unsignedFrom
 location dwo version size s offset base =
     andThen (opened (enc version size) s offset base)
     (λ w. gives (trace (locations dwo (enc version size) Little s) (tableAt Little (enc version size) (record { 0 = 8 }) table) size (length s) w))
@@ -60,11 +61,11 @@ abbrev pub expression : ℕ → ℕ → Expression
 expression offset len = record { offset = offset; len = len }
 
 -- `00`; the empty section
-end-mark : range 5 4 (0x00 ∷ []) 0 0 ≡ gives (over (walkAt 1 0))
+end-mark : range 5 4 (0x00 ∷ []) 0 0 ≡ gives (over (walkAt 1 0 1))
 unfolding rangesIn
 end-mark = refl
 
-empty-section : range 5 4 [] 0 0 ≡ gives (over (walkAt 0 0))
+empty-section : range 5 4 [] 0 0 ≡ gives (over (walkAt 0 0 0))
 unfolding rangesIn
 empty-section = refl
 
@@ -74,40 +75,40 @@ past-the-section = refl
 
 -- ranges by start and end, by offsets, at the tombstone bound, past 2^32, and of one byte
 start-end : range 5 4 (0x06 ∷ 0x10 ∷ 0x00 ∷ 0x00 ∷ 0x00 ∷ 0x20 ∷ 0x00 ∷ 0x00 ∷ 0x00 ∷ 0x00 ∷ []) 0 0
-    ≡ gives (handed (gives (item 0x10 0x20 tt)) (walkAt 9 0) (over (walkAt 10 0)))
+    ≡ gives (handed (gives (item 0x10 0x20 tt)) (walkAt 9 0 1) (over (walkAt 10 0 2)))
 unfolding rangesIn
 start-end = refl
 
 padded-offsets : range 5 4 (0x04 ∷ 0x01 ∷ 0x82 ∷ 0x00 ∷ 0x00 ∷ []) 0 0x1000
-    ≡ gives (handed (gives (item 0x1001 0x1002 tt)) (walkAt 4 0x1000) (over (walkAt 5 0x1000)))
+    ≡ gives (handed (gives (item 0x1001 0x1002 tt)) (walkAt 4 0x1000 1) (over (walkAt 5 0x1000 2)))
 unfolding rangesIn
 padded-offsets = refl
 
 below-tombstone : range 5 4 (0x04 ∷ 0x00 ∷ 0x01 ∷ 0x00 ∷ []) 0 0xfffffffd
-    ≡ gives (handed (gives (item 0xfffffffd 0xfffffffe tt)) (walkAt 3 0xfffffffd) (over (walkAt 4 0xfffffffd)))
+    ≡ gives (handed (gives (item 0xfffffffd 0xfffffffe tt)) (walkAt 3 0xfffffffd 1) (over (walkAt 4 0xfffffffd 2)))
 unfolding rangesIn
 below-tombstone = refl
 
-at-tombstone : range 5 4 (0x04 ∷ 0x00 ∷ 0x01 ∷ 0x00 ∷ []) 0 0xfffffffe ≡ gives (over (walkAt 4 0xfffffffe))
+at-tombstone : range 5 4 (0x04 ∷ 0x00 ∷ 0x01 ∷ 0x00 ∷ []) 0 0xfffffffe ≡ gives (over (walkAt 4 0xfffffffe 2))
 unfolding rangesIn
 at-tombstone = refl
 
 base-at-tombstone : range 5 4 (0x04 ∷ 0x80 ∷ 0x02 ∷ 0x90 ∷ 0x02 ∷ 0x00 ∷ []) 0 0xfffffffe
-    ≡ gives (over (walkAt 6 0xfffffffe))
+    ≡ gives (over (walkAt 6 0xfffffffe 2))
 unfolding rangesIn
 base-at-tombstone = refl
 
 wrapped-sum : range 5 4 (0x04 ∷ 0x80 ∷ 0x02 ∷ 0x90 ∷ 0x02 ∷ 0x00 ∷ []) 0 0xffffff00
-    ≡ gives (handed (gives (item 0 0x10 tt)) (walkAt 5 0xffffff00) (over (walkAt 6 0xffffff00)))
+    ≡ gives (handed (gives (item 0 0x10 tt)) (walkAt 5 0xffffff00 1) (over (walkAt 6 0xffffff00 2)))
 unfolding rangesIn
 wrapped-sum = refl
 
 size-one : range 5 1 (0x07 ∷ 0xf0 ∷ 0x0f ∷ 0x00 ∷ []) 0 0
-    ≡ gives (handed (gives (item 0xf0 0xff tt)) (walkAt 3 0) (over (walkAt 4 0)))
+    ≡ gives (handed (gives (item 0xf0 0xff tt)) (walkAt 3 0 1) (over (walkAt 4 0 2)))
 unfolding rangesIn
 size-one = refl
 
-size-one-skipped : range 5 1 (0x07 ∷ 0xf0 ∷ 0x20 ∷ 0x00 ∷ []) 0 0 ≡ gives (over (walkAt 4 0))
+size-one-skipped : range 5 1 (0x07 ∷ 0xf0 ∷ 0x20 ∷ 0x00 ∷ []) 0 0 ≡ gives (over (walkAt 4 0 2))
 unfolding rangesIn
 size-one-skipped = refl
 
@@ -129,38 +130,34 @@ tenth-02 = refl
 
 -- bare pairs: a base and a pair; a pair of equal numbers, which ends nothing; the end pair, after which nothing is read
 bare-pairs : range 4 2 (0xff ∷ 0xff ∷ 0x00 ∷ 0x20 ∷ 0x01 ∷ 0x00 ∷ 0x03 ∷ 0x00 ∷ 0x00 ∷ 0x00 ∷ 0x00 ∷ 0x00 ∷ []) 0 0
-    ≡ gives (handed (gives (item 0x2001 0x2003 tt)) (walkAt 8 0x2000) (over (walkAt 12 0x2000)))
+    ≡ gives (handed (gives (item 0x2001 0x2003 tt)) (walkAt 8 0x2000 2) (over (walkAt 12 0x2000 3)))
 unfolding rangesIn
 bare-pairs = refl
 
 equal-pair : range 4 2 (0x05 ∷ 0x00 ∷ 0x05 ∷ 0x00 ∷ 0x01 ∷ 0x00 ∷ 0x03 ∷ 0x00 ∷ 0x00 ∷ 0x00 ∷ 0x00 ∷ 0x00 ∷ []) 0 0
-    ≡ gives (handed (gives (item 1 3 tt)) (walkAt 8 0) (over (walkAt 12 0)))
+    ≡ gives (handed (gives (item 1 3 tt)) (walkAt 8 0 2) (over (walkAt 12 0 3)))
 unfolding rangesIn
 equal-pair = refl
 
-end-pair : range 4 2 (0x00 ∷ 0x00 ∷ 0x00 ∷ 0x00 ∷ 0x01 ∷ 0x00 ∷ 0x03 ∷ 0x00 ∷ []) 0 0 ≡ gives (over (walkAt 8 0))
+end-pair : range 4 2 (0x00 ∷ 0x00 ∷ 0x00 ∷ 0x00 ∷ 0x01 ∷ 0x00 ∷ 0x03 ∷ 0x00 ∷ []) 0 0 ≡ gives (over (walkAt 8 0 1))
 unfolding rangesIn
 end-pair = refl
 
 -- the address table: a list with a row that is not there goes on after the refusal
 by-index : range 5 4 (0x02 ∷ 0x00 ∷ 0x02 ∷ 0x03 ∷ 0x00 ∷ 0x08 ∷ 0x00 ∷ []) 0 0
-    ≡ gives (handed (refused 1 []) (walkAt 3 0) (handed (gives (item 0x10 0x18 tt)) (walkAt 6 0) (over (walkAt 7 0))))
+    ≡ gives (handed (refused 1 []) (walkAt 3 0 1) (handed (gives (item 0x10 0x18 tt)) (walkAt 6 0 2) (over (walkAt 7 0 3))))
 unfolding rangesIn
 by-index = refl
 
 -- the same, call after call
-abbrev after : {D : Type 0} → Next (Item D) Walk → Walk
-after (hands r w) = w
-after (ends w) = w
-
-calls : List ℕ → ℕ → Walk → List (Next (Item Unit) Walk)
-unfolding next trace traceFrom convert addressAt rowAt rangeEntry rawAt coded kindOf rangeKinds address skip uint isSize little unsigned unsignedFrom
+unfoldable pub calls : List ℕ → ℕ → Walk → List (Next (Item Unit) Walk)
+unfolding next oneMore trace traceFrom convert addressAt rowAt rangeEntry rawAt coded kindOf rangeKinds address skip uint isSize little unsigned unsignedFrom
 calls s zero w = []
 calls s (suc n) w =
-    let r = nextRange (enc 5 4) Little s table (record { 0 = 8 }) w in r ∷ calls s n (after r)
+    let r = nextRange (enc 5 4) Little s table (record { 0 = 8 }) w in r ∷ calls s n (leftBy r)
 
-by-calls : calls (0x02 ∷ 0x00 ∷ 0x02 ∷ 0x03 ∷ 0x00 ∷ 0x08 ∷ 0x00 ∷ []) 4 (walkAt 0 0)
-    ≡ hands (refused 1 []) (walkAt 3 0) ∷ hands (gives (item 0x10 0x18 tt)) (walkAt 6 0) ∷ ends (walkAt 7 0) ∷ ends (walkAt 7 0) ∷ []
+by-calls : calls (0x02 ∷ 0x00 ∷ 0x02 ∷ 0x03 ∷ 0x00 ∷ 0x08 ∷ 0x00 ∷ []) 4 (walkAt 0 0 0)
+    ≡ hands (refused 1 []) (walkAt 3 0 1) ∷ hands (gives (item 0x10 0x18 tt)) (walkAt 6 0 2) ∷ ends (walkAt 7 0 3) ∷ ends (walkAt 7 0 3) ∷ []
 unfolding calls
 by-calls = refl
 
@@ -222,7 +219,7 @@ abbrev default : List ℕ
 default = 0x05 ∷ 0x01 ∷ 0x50 ∷ 0x00 ∷ []
 
 default-location : location false 5 4 default 0 0
-    ≡ gives (handed (gives (item 0 (2 ^ 64 - 1) (expression 2 1))) (walkAt 3 0) (over (walkAt 4 0)))
+    ≡ gives (handed (gives (item 0 (2 ^ 64 - 1) (expression 2 1))) (walkAt 3 0 1) (over (walkAt 4 0 2)))
 unfolding location
 default-location = refl
 
@@ -234,7 +231,7 @@ abbrev splitList : List ℕ
 splitList = 0x03 ∷ 0x00 ∷ 0x08 ∷ 0x00 ∷ 0x00 ∷ 0x00 ∷ 0x01 ∷ 0x00 ∷ 0x50 ∷ 0x00 ∷ []
 
 split-4 : location true 4 4 splitList 0 0
-    ≡ gives (handed (gives (item 0x10 0x18 (expression 8 1))) (walkAt 9 0) (over (walkAt 10 0)))
+    ≡ gives (handed (gives (item 0x10 0x18 (expression 8 1))) (walkAt 9 0 1) (over (walkAt 10 0 2)))
 unfolding location
 split-4 = refl
 
@@ -247,7 +244,7 @@ abbrev bareList : List ℕ
 bareList = 0xff ∷ 0xff ∷ 0x00 ∷ 0x20 ∷ 0x01 ∷ 0x00 ∷ 0x03 ∷ 0x00 ∷ 0x01 ∷ 0x00 ∷ 0x50 ∷ 0x00 ∷ 0x00 ∷ 0x00 ∷ 0x00 ∷ 0x51 ∷ []
 
 bare-locations : location false 4 2 bareList 0 0
-    ≡ gives (handed (gives (item 0x2001 0x2003 (expression 10 1))) (walkAt 11 0x2000) (over (walkAt 16 0x2000)))
+    ≡ gives (handed (gives (item 0x2001 0x2003 (expression 10 1))) (walkAt 11 0x2000 2) (over (walkAt 16 0x2000 3)))
 unfolding location
 bare-locations = refl
 
@@ -256,19 +253,19 @@ unfolding partOf
 bare-expression = refl
 
 -- rows 1 to 4 of the refusals: a raw refusal empties the walk
-refusal-1 : range 5 4 (0x06 ∷ 0x10 ∷ 0x00 ∷ []) 0 0 ≡ gives (handed (refused 1 []) (walkAt 3 0) (over (walkAt 3 0)))
+refusal-1 : range 5 4 (0x06 ∷ 0x10 ∷ 0x00 ∷ []) 0 0 ≡ gives (handed (refused 1 []) (walkAt 3 0 0) (over (walkAt 3 0 0)))
 unfolding rangesIn
 refusal-1 = refl
 
-refusal-2 : range 5 4 (0x04 ∷ tenth 0x02) 0 0 ≡ gives (handed (refused 2 []) (walkAt 11 0) (over (walkAt 11 0)))
+refusal-2 : range 5 4 (0x04 ∷ tenth 0x02) 0 0 ≡ gives (handed (refused 2 []) (walkAt 11 0 0) (over (walkAt 11 0 0)))
 unfolding rangesIn
 refusal-2 = refl
 
-refusal-3 : range 5 4 (0x08 ∷ []) 0 0 ≡ gives (handed (refused 3 (0x08 ∷ [])) (walkAt 1 0) (over (walkAt 1 0)))
+refusal-3 : range 5 4 (0x08 ∷ []) 0 0 ≡ gives (handed (refused 3 (0x08 ∷ [])) (walkAt 1 0 0) (over (walkAt 1 0 0)))
 unfolding rangesIn
 refusal-3 = refl
 
-refusal-4 : location false 5 4 (0x09 ∷ []) 0 0 ≡ gives (handed (refused 4 (0x09 ∷ [])) (walkAt 1 0) (over (walkAt 1 0)))
+refusal-4 : location false 5 4 (0x09 ∷ []) 0 0 ≡ gives (handed (refused 4 (0x09 ∷ [])) (walkAt 1 0 0) (over (walkAt 1 0 0)))
 unfolding location
 refusal-4 = refl
 
@@ -358,12 +355,12 @@ offset-sum = refl
 
 -- open point 1: a begin is looked up before its end (size 8, no table; the index 2^61 gives 9, the index 0 gives 1)
 lost-begin : rangesIn Little [] 0 5 8 (0x02 ∷ 0x80 ∷ 0x80 ∷ 0x80 ∷ 0x80 ∷ 0x80 ∷ 0x80 ∷ 0x80 ∷ 0x80 ∷ 0x20 ∷ 0x00 ∷ 0x00 ∷ []) 0 0
-    ≡ gives (handed (refused 9 []) (walkAt 11 0) (over (walkAt 12 0)))
+    ≡ gives (handed (refused 9 []) (walkAt 11 0 1) (over (walkAt 12 0 2)))
 unfolding rangesIn
 lost-begin = refl
 
 lost-end : rangesIn Little [] 0 5 8 (0x02 ∷ 0x00 ∷ 0x80 ∷ 0x80 ∷ 0x80 ∷ 0x80 ∷ 0x80 ∷ 0x80 ∷ 0x80 ∷ 0x80 ∷ 0x20 ∷ 0x00 ∷ []) 0 0
-    ≡ gives (handed (refused 1 []) (walkAt 11 0) (over (walkAt 12 0)))
+    ≡ gives (handed (refused 1 []) (walkAt 11 0 1) (over (walkAt 12 0 2)))
 unfolding rangesIn
 lost-end = refl
 
@@ -373,12 +370,12 @@ unfolding row
 never-added = refl
 
 -- open point 4: the end mark empties the walk, and what follows it is not read
-end-empties : range 5 4 (0x00 ∷ 0x08 ∷ []) 0 0 ≡ gives (over (walkAt 2 0))
+end-empties : range 5 4 (0x00 ∷ 0x08 ∷ []) 0 0 ≡ gives (over (walkAt 2 0 1))
 unfolding rangesIn
 end-empties = refl
 
-end-again : calls (0x00 ∷ 0x08 ∷ []) 3 (walkAt 0 0)
-    ≡ ends (walkAt 2 0) ∷ ends (walkAt 2 0) ∷ ends (walkAt 2 0) ∷ []
+end-again : calls (0x00 ∷ 0x08 ∷ []) 3 (walkAt 0 0 0)
+    ≡ ends (walkAt 2 0 1) ∷ ends (walkAt 2 0 1) ∷ ends (walkAt 2 0 1) ∷ []
 unfolding calls
 end-again = refl
 
@@ -393,7 +390,7 @@ size-last = refl
 
 -- open point 7: an empty expression at the section's end
 empty-expression : location false 5 4 (0x05 ∷ 0x00 ∷ []) 0 0
-    ≡ gives (handed (gives (item 0 (2 ^ 64 - 1) (expression 2 0))) (walkAt 2 0) (over (walkAt 2 0)))
+    ≡ gives (handed (gives (item 0 (2 ^ 64 - 1) (expression 2 0))) (walkAt 2 0 1) (over (walkAt 2 0 1)))
 unfolding location
 empty-expression = refl
 

@@ -1,5 +1,6 @@
 pub mod Cases
 pub mod CanonicalCases
+pub mod CountCases
 pub mod TableHeaders
 pub mod ThreeBytes
 pub mod Pinned

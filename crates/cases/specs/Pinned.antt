@@ -43,29 +43,29 @@ opening-size = refl
 abbrev two : List ℕ
 two = 0x08 ∷ 0x09 ∷ []
 
-range-size : nextRange (enc 5) Little two [] (record { 0 = 0 }) (walkAt 0 7) ≡ hands (refused 6 (5 ∷ [])) (walkAt 2 7)
+range-size : nextRange (enc 5) Little two [] (record { 0 = 0 }) (walkAt 0 7 3) ≡ hands (refused 6 (5 ∷ [])) (walkAt 2 7 3)
 unfolding next isSize
 range-size = refl
 
-location-size : nextLocation false (enc 5) Little two [] (record { 0 = 0 }) (walkAt 0 7) ≡ hands (refused 6 (5 ∷ [])) (walkAt 2 7)
+location-size : nextLocation false (enc 5) Little two [] (record { 0 = 0 }) (walkAt 0 7 3) ≡ hands (refused 6 (5 ∷ [])) (walkAt 2 7 3)
 unfolding next isSize
 location-size = refl
 
-raw-range-size : nextRawRange (enc 5) Little two (walkAt 0 7) ≡ hands (refused 6 (5 ∷ [])) (walkAt 2 7)
+raw-range-size : nextRawRange (enc 5) Little two (walkAt 0 7 3) ≡ hands (refused 6 (5 ∷ [])) (walkAt 2 7 3)
 unfolding nextRaw isSize
 raw-range-size = refl
 
-raw-location-size : nextRawLocation false (enc 5) Little two (walkAt 0 7) ≡ hands (refused 6 (5 ∷ [])) (walkAt 2 7)
+raw-location-size : nextRawLocation false (enc 5) Little two (walkAt 0 7 3) ≡ hands (refused 6 (5 ∷ [])) (walkAt 2 7 3)
 unfolding nextRaw isSize
 raw-location-size = refl
 
-converted-range-size : convertedRange (enc 5) Little [] (record { 0 = 0 }) (walkAt 1 7) (rng.BaseAddress 9)
-    ≡ comes (refused 6 (5 ∷ [])) (walkAt 1 7)
+converted-range-size : convertedRange (enc 5) Little [] (record { 0 = 0 }) (walkAt 1 7 3) (rng.BaseAddress 9)
+    ≡ comes (refused 6 (5 ∷ [])) (walkAt 1 7 3)
 unfolding convertRaw isSize
 converted-range-size = refl
 
-converted-location-size : convertedLocation (enc 5) Little [] (record { 0 = 0 }) (walkAt 1 7) (loc.BaseAddress 9)
-    ≡ comes (refused 6 (5 ∷ [])) (walkAt 1 7)
+converted-location-size : convertedLocation (enc 5) Little [] (record { 0 = 0 }) (walkAt 1 7 3) (loc.BaseAddress 9)
+    ≡ comes (refused 6 (5 ∷ [])) (walkAt 1 7 3)
 unfolding convertRaw isSize
 converted-location-size = refl
 
@@ -161,7 +161,7 @@ none-verdict = refl
 
 -- a range and then refusal 3: without room for the range refusal 10 comes first, with room for it refusal 3
 abbrev refusedAfter : Trace Unit
-refusedAfter = handed (gives (item 0x10 0x20 tt)) (walkAt 9 0) (handed (refused 3 (0x08 ∷ [])) (walkAt 10 0) (over (walkAt 10 0)))
+refusedAfter = handed (gives (item 0x10 0x20 tt)) (walkAt 9 0 1) (handed (refused 3 (0x08 ∷ [])) (walkAt 10 0 1) (over (walkAt 10 0 1)))
 
 no-room : yieldedIn 0 refusedAfter ≡ refused 10 []
 unfolding yieldedIn

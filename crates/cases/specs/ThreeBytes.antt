@@ -32,59 +32,59 @@ abbrev range : RunTimeEndian → ℕ → List ℕ → ℕ → Result (Trace Unit
 range endian version s base = rangesIn endian table 8 version 3 s 0 base
 
 start-end : range Little 5 (0x06 ∷ 0x10 ∷ 0x00 ∷ 0x00 ∷ 0x20 ∷ 0x00 ∷ 0x00 ∷ 0x00 ∷ []) 0
-    ≡ gives (handed (gives (item 0x10 0x20 tt)) (walkAt 7 0) (over (walkAt 8 0)))
+    ≡ gives (handed (gives (item 0x10 0x20 tt)) (walkAt 7 0 1) (over (walkAt 8 0 2)))
 unfolding rangesIn
 start-end = refl
 
 start-end-big : range Big 5 (0x06 ∷ 0x00 ∷ 0x00 ∷ 0x10 ∷ 0x00 ∷ 0x00 ∷ 0x20 ∷ 0x00 ∷ []) 0
-    ≡ gives (handed (gives (item 0x10 0x20 tt)) (walkAt 7 0) (over (walkAt 8 0)))
+    ≡ gives (handed (gives (item 0x10 0x20 tt)) (walkAt 7 0 1) (over (walkAt 8 0 2)))
 unfolding rangesIn
 start-end-big = refl
 
 -- each byte has its place
 each-byte : range Little 5 (0x06 ∷ 0x01 ∷ 0x02 ∷ 0x03 ∷ 0x04 ∷ 0x05 ∷ 0x06 ∷ 0x00 ∷ []) 0
-    ≡ gives (handed (gives (item 0x030201 0x060504 tt)) (walkAt 7 0) (over (walkAt 8 0)))
+    ≡ gives (handed (gives (item 0x030201 0x060504 tt)) (walkAt 7 0 1) (over (walkAt 8 0 2)))
 unfolding rangesIn
 each-byte = refl
 
 each-byte-big : range Big 5 (0x06 ∷ 0x01 ∷ 0x02 ∷ 0x03 ∷ 0x04 ∷ 0x05 ∷ 0x06 ∷ 0x00 ∷ []) 0
-    ≡ gives (handed (gives (item 0x010203 0x040506 tt)) (walkAt 7 0) (over (walkAt 8 0)))
+    ≡ gives (handed (gives (item 0x010203 0x040506 tt)) (walkAt 7 0 1) (over (walkAt 8 0 2)))
 unfolding rangesIn
 each-byte-big = refl
 
 -- a base right below the tombstone bound, and at it; sums keep 24 bits
 below-the-bound : range Little 5 (0x04 ∷ 0x00 ∷ 0x01 ∷ 0x00 ∷ []) 0xfffffd
-    ≡ gives (handed (gives (item 0xfffffd 0xfffffe tt)) (walkAt 3 0xfffffd) (over (walkAt 4 0xfffffd)))
+    ≡ gives (handed (gives (item 0xfffffd 0xfffffe tt)) (walkAt 3 0xfffffd 1) (over (walkAt 4 0xfffffd 2)))
 unfolding rangesIn
 below-the-bound = refl
 
-at-the-bound : range Little 5 (0x04 ∷ 0x00 ∷ 0x01 ∷ 0x00 ∷ []) 0xfffffe ≡ gives (over (walkAt 4 0xfffffe))
+at-the-bound : range Little 5 (0x04 ∷ 0x00 ∷ 0x01 ∷ 0x00 ∷ []) 0xfffffe ≡ gives (over (walkAt 4 0xfffffe 2))
 unfolding rangesIn
 at-the-bound = refl
 
 wrapped : range Little 5 (0x04 ∷ 0x80 ∷ 0x02 ∷ 0x90 ∷ 0x02 ∷ 0x00 ∷ []) 0xffff00
-    ≡ gives (handed (gives (item 0 0x10 tt)) (walkAt 5 0xffff00) (over (walkAt 6 0xffff00)))
+    ≡ gives (handed (gives (item 0 0x10 tt)) (walkAt 5 0xffff00 1) (over (walkAt 6 0xffff00 2)))
 unfolding rangesIn
 wrapped = refl
 
 -- an end at the largest address, and one past it
 to-the-end : range Little 5 (0x07 ∷ 0xf0 ∷ 0xff ∷ 0xff ∷ 0x0f ∷ 0x00 ∷ []) 0
-    ≡ gives (handed (gives (item 0xfffff0 0xffffff tt)) (walkAt 5 0) (over (walkAt 6 0)))
+    ≡ gives (handed (gives (item 0xfffff0 0xffffff tt)) (walkAt 5 0 1) (over (walkAt 6 0 2)))
 unfolding rangesIn
 to-the-end = refl
 
-past-the-end : range Little 5 (0x07 ∷ 0xf0 ∷ 0xff ∷ 0xff ∷ 0x10 ∷ 0x00 ∷ []) 0 ≡ gives (over (walkAt 6 0))
+past-the-end : range Little 5 (0x07 ∷ 0xf0 ∷ 0xff ∷ 0xff ∷ 0x10 ∷ 0x00 ∷ []) 0 ≡ gives (over (walkAt 6 0 2))
 unfolding rangesIn
 past-the-end = refl
 
 -- bare pairs: a base, whose begin has its 24 bits set, and a pair
 bare-pairs : range Little 4
     (0xff ∷ 0xff ∷ 0xff ∷ 0x00 ∷ 0x20 ∷ 0x00 ∷ 0x01 ∷ 0x00 ∷ 0x00 ∷ 0x03 ∷ 0x00 ∷ 0x00 ∷ 0x00 ∷ 0x00 ∷ 0x00 ∷ 0x00 ∷ 0x00 ∷ 0x00 ∷ []) 0
-    ≡ gives (handed (gives (item 0x2001 0x2003 tt)) (walkAt 12 0x2000) (over (walkAt 18 0x2000)))
+    ≡ gives (handed (gives (item 0x2001 0x2003 tt)) (walkAt 12 0x2000 2) (over (walkAt 18 0x2000 3)))
 unfolding rangesIn
 bare-pairs = refl
 
-cut : range Little 5 (0x06 ∷ 0x10 ∷ 0x00 ∷ []) 0 ≡ gives (handed (refused 1 []) (walkAt 3 0) (over (walkAt 3 0)))
+cut : range Little 5 (0x06 ∷ 0x10 ∷ 0x00 ∷ []) 0 ≡ gives (handed (refused 1 []) (walkAt 3 0 0) (over (walkAt 3 0 0)))
 unfolding rangesIn
 cut = refl
 
@@ -94,19 +94,19 @@ past-the-section = refl
 
 -- by index, from the table above; the row behind its last is not there
 indexed : range Little 5 (0x02 ∷ 0x00 ∷ 0x01 ∷ 0x02 ∷ 0x00 ∷ 0x02 ∷ 0x00 ∷ []) 0
-    ≡ gives (handed (gives (item 0x10 0x20 tt)) (walkAt 3 0) (handed (refused 1 []) (walkAt 6 0) (over (walkAt 7 0))))
+    ≡ gives (handed (gives (item 0x10 0x20 tt)) (walkAt 3 0 1) (handed (refused 1 []) (walkAt 6 0 2) (over (walkAt 7 0 3))))
 unfolding rangesIn
 indexed = refl
 
 -- a split location list of version 4: a begin by its three bytes and a length
 split-location : location true 4 3 (0x08 ∷ 0x10 ∷ 0x00 ∷ 0x01 ∷ 0x08 ∷ 0x01 ∷ 0x00 ∷ 0x50 ∷ 0x00 ∷ []) 0 0
-    ≡ gives (handed (gives (item 0x010010 0x010018 (expression 7 1))) (walkAt 8 0) (over (walkAt 9 0)))
+    ≡ gives (handed (gives (item 0x010010 0x010018 (expression 7 1))) (walkAt 8 0 1) (over (walkAt 9 0 2)))
 unfolding location
 split-location = refl
 
 -- a location list of bare pairs
 bare-location : location false 4 3 (0x10 ∷ 0x00 ∷ 0x00 ∷ 0x20 ∷ 0x00 ∷ 0x00 ∷ 0x01 ∷ 0x00 ∷ 0x50 ∷ 0x00 ∷ 0x00 ∷ 0x00 ∷ 0x00 ∷ 0x00 ∷ 0x00 ∷ []) 0 0
-    ≡ gives (handed (gives (item 0x10 0x20 (expression 8 1))) (walkAt 9 0) (over (walkAt 15 0)))
+    ≡ gives (handed (gives (item 0x10 0x20 (expression 8 1))) (walkAt 9 0 1) (over (walkAt 15 0 2)))
 unfolding location
 bare-location = refl
 

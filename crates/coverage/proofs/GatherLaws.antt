@@ -24,6 +24,7 @@ use Rattle.lists.specs.Convert.{tableAt}
 use Rattle.lists.specs.Walk as both
 use Rattle.lists.specs.Walk.{Item, item, Trace, over, trace, first, handed}
 use Rattle.lists.specs.Walks.{Hands}
+use Rattle.lists.specs.Uncounted.{uncounted, traceUncounted}
 use Rattle.lists.specs.declared.Walk.{Walk}
 use Rattle.lists.proofs.ConvertLaws.{opened-list}
 use Rattle.lists.proofs.OpenLaws.{opened-size, opened-inside}
@@ -31,6 +32,7 @@ use Rattle.lists.proofs.WalkLaws.{Moved, next-first}
 use Rattle.lists.proofs.Theorems.{hands-out}
 use Rattle.lists.proofs.Past.{listed-past}
 use Rattle.lists.proofs.CallLaws.{next-ahead}
+use Rattle.lists.proofs.CountLaws.{trace-uncounted}
 use Rattle.coverage.specs.Ranges.{Range, Covers, Apart, limit, runs}
 use Rattle.coverage.specs.Covered.{yieldedIn, Holds, rangeList, locationList, holding, Source, source, listing, traceOf, coverageOf, Bytes}
 use Rattle.coverage.specs.Kept.{paired, firsts, ends}
@@ -108,7 +110,7 @@ module _ {D : Type 0} where
     unfolding within
     within-lost q = rw q
 
-  within-many : (v : Walk) {t : Trace D} {i : Item D} {w : Walk} {u : Trace D} → t ≡ handed (gives i) w u → within 0 v t ≡ gives (full [] v)
+  within-many : (v : Walk) {t : Trace D} {i : Item D} {w : Walk} {u : Trace D} → t ≡ handed (gives i) w u → within 0 v t ≡ gives (full [] (uncounted v))
   unfolding within
   within-many v q = rw q
 
@@ -145,12 +147,12 @@ module _ {D : Type 0} {room : ℕ} {v : Walk} {t : Trace D} {bs es : List ℕ} {
           sized = (length-set bs n b ∙ lb, length-set es n e ∙ le);
         }
 
-    many : {i : Item D} {w : Walk} {u : Trace D} → room ≤ n → t ≡ handed (gives i) w u → toldGathered (gathered.Full v) bs es ≡ goal
+    many : {i : Item D} {w : Walk} {u : Trace D} → room ≤ n → t ≡ handed (gives i) w u → toldGathered (gathered.Full (uncounted v)) bs es ≡ goal
     many h q =
         let r : room - n ≡ 0 = omega arith in
         let l : length bs ≡ n = omega (arith, g .few, g .sized .0) in
-        ap (λ (k : ℕ). gives (full (firsts k bs es) v)) l
-        ∙ ap (λ (l : List Range). gives (full l v)) (sym (append-nil (firsts n bs es)))
+        ap (λ (k : ℕ). gives (full (firsts k bs es) (uncounted v))) l
+        ∙ ap (λ (l : List Range). gives (full l (uncounted v))) (sym (append-nil (firsts n bs es)))
         ∙ ap (inFront (firsts n bs es)) (sym (within-many v q))
         ∙ (rw r at (g .same))
 
@@ -161,7 +163,7 @@ module _ {D : Type 0} {room : ℕ} {v : Walk} {t : Trace D} {bs es : List ℕ} {
           let k : Stored true (b, e) n bs es xs ys = rw h at s in
           rw (k .1, k .2) (more (omega (arith, k .0, g .sized .0)) q)
 
-      pub gathering-many : r ≡ false → toldGathered (gathered.Full v) xs ys ≡ goal
+      pub gathering-many : r ≡ false → toldGathered (gathered.Full (uncounted v)) xs ys ≡ goal
       gathering-many h =
           let k : Stored false (b, e) n bs es xs ys = rw h at s in
           rw (k .1, k .2) (many (omega (arith, k .0, g .sized .0)) q)
@@ -333,6 +335,20 @@ module _ (x : Source) where
         (hands-out (listing (x .holds) (x .encoding) (x .endian) (x .section)) (tableAt (x .endian) (x .encoding) (x .«table_base») (x .table))
         (x .encoding .«address_size») (length (x .section)) walk-past v)
 
+  -- counted or not, a walk yields the same
+  yielded-uncounted : (m : ℕ) (t : Trace (listing (x .holds) (x .encoding) (x .endian) (x .section) .Carried)) → yieldedIn m t ≡ yieldedIn m (traceUncounted t)
+  unfolding yieldedIn
+  yielded-uncounted m (over w) = refl
+  yielded-uncounted m (handed (refused n vs) w t) = refl
+  yielded-uncounted zero (handed (gives i) w t) = refl
+  yielded-uncounted (suc m) (handed (gives (item b e d)) w t) = ap (mapped (λ rs. (b, e) ∷ rs)) (yielded-uncounted m t)
+
+  yielded-anew : (m : ℕ) (w : Walk) → yieldedIn m (traceOf x w) ≡ yieldedIn m (traceOf x (uncounted w))
+  unfolding traceOf
+  yielded-anew m w =
+      let does = trace-uncounted (listing (x .holds) (x .encoding) (x .endian) (x .section)) (tableAt (x .endian) (x .encoding) (x .«table_base») (x .table)) (x .encoding .«address_size») (length (x .section)) in
+      yielded-uncounted m (traceOf x w) ∙ ap (yieldedIn m) (does w ∙ sym (does (uncounted w))) ∙ sym (yielded-uncounted m (traceOf x (uncounted w)))
+
   -- gathered with some room, and where it is full gone on with more, is gathered with both
   abbrev onward : ℕ → Result Within → Result (List Range)
   onward m (gives (all n rs)) = gives rs
@@ -354,7 +370,7 @@ module _ (x : Source) where
   going-on room m v (handed (refused n vs) w t) q = refl
   going-on zero m v (handed (gives i) w t) q =
       let z : 0 + m ≡ m = omega arith in
-      ap (λ (k : ℕ). yieldedIn k (handed (gives i) w t)) z ∙ after-none (yieldedIn m (handed (gives i) w t)) ∙ ap (λ u. after [] (yieldedIn m u)) (sym q)
+      ap (λ (k : ℕ). yieldedIn k (handed (gives i) w t)) z ∙ after-none (yieldedIn m (handed (gives i) w t)) ∙ ap (λ u. after [] (yieldedIn m u)) (sym q) ∙ ap (after []) (yielded-anew m v)
   going-on (suc room) m v (handed (gives (item b e d)) w t) q =
       let z : suc room + m ≡ suc (room + m) = omega arith in
       ap (λ (k : ℕ). yieldedIn k (handed (gives (item b e d)) w t)) z
@@ -383,7 +399,8 @@ module _ (x : Source) where
     stands zero v (handed (gives i) w t) q k = k
     stands (suc room) v (handed (gives (item b e d)) w t) q k = in-front-stands ((b, e) ∷ []) (within room w t) (stands room w t (trace-after v q) (walk-ahead v q))
 
-    opened-rest : (w : Walk) → w .at ≤ length (x .section) → opened (x .encoding) (x .section) (w .at) (w .«base_address») ≡ gives w
+    -- a list that begins there is walked with no entry counted
+    opened-rest : (w : Walk) → w .at ≤ length (x .section) → opened (x .encoding) (x .section) (w .at) (w .«base_address») ≡ gives (uncounted w)
     opened-rest w k = opened-list (x .encoding) (x .section) (w .at) (w .«base_address») h k
 
 -- a list's coverage, from what was gathered with less room
@@ -434,9 +451,9 @@ module _ (x : Source) (b : Bytes x) where
       goes (gives (all n rs)) s e = ap gives (runs-nonempty o rs e)
       goes (gives (full rs w)) s e =
           let h = opened-size (x .encoding) (x .section) (x .offset) (x .«base_address») o in
-          let y = within-yielded (limit - room) w (traceOf x w) in
+          let y = yielded-anew x (limit - room) w ∙ within-yielded (limit - room) (uncounted w) (traceOf x (uncounted w)) in
           ap (λ (y : Result (List Range)). mapped runs (after rs y)) y
-          ∙ goes-last o rs (within (limit - room) w (traceOf x w)) (e ∙ ap (after rs) y)
+          ∙ goes-last o rs (within (limit - room) (uncounted w) (traceOf x (uncounted w))) (e ∙ ap (after rs) y)
           ∙ ap orTooMany (sym (within-coverage rs (limit - room) (listFrom x w) (opened-rest x h w s)))
       goes (refused n vs) s e = refl
 

@@ -8,6 +8,7 @@ use lib.ListN.{length, set}
 use Rattle.bytes.specs.Read.{Result, gives, refused, andThen, pick}
 use Rattle.bytes.specs.Error.{refusal}
 use Rattle.bytes.specs.declared.error.Error.the-variants.{TooManyRanges}
+use Rattle.lists.specs.Uncounted.{uncounted}
 use Rattle.lists.specs.Walk.{item, Trace, over, handed}
 use Rattle.lists.specs.declared.Walk.{Walk}
 use Rattle.coverage.specs.Ranges.{Range, runs}
@@ -26,7 +27,7 @@ Stored true r n bs es xs ys = (n < length bs) × (xs ≡ set bs n (r .0)) × (ys
 Stored false r n bs es xs ys = (length bs ≤ n) × (xs ≡ bs) × (ys ≡ es)
 
 -- ranges where there is room for some number of them: all, and how many they are; or those that there is room for, and the walk
--- from which the others come
+-- from which the others come, its entries not counted
 pub data Within : Type 0 where
   all : ℕ → List Range → Within
   full : List Range → Walk → Within
@@ -45,7 +46,7 @@ inFront done r = andThen r (λ g. gives (behind done g))
 unfoldable pub within : {D : Type 0} → ℕ → Walk → Trace D → Result Within
 within room v (over w) = gives (all 0 [])
 within room v (handed (refused n vs) w t) = refused n vs
-within zero v (handed (gives i) w t) = gives (full [] v)
+within zero v (handed (gives i) w t) = gives (full [] (uncounted v))
 within (suc room) v (handed (gives (item b e d)) w t) = inFront ((b, e) ∷ []) (within room w t)
 
 -- the ranges that hold an address

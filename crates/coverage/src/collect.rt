@@ -101,7 +101,13 @@ fn gather(
                     n += 1;
                     walk = after;
                 } else {
-                    return Gathered::Full(walk);
+                    // Nobody asks for its count, so that the loop keeps none.
+                    let rest = Walk {
+                        at: walk.at,
+                        base_address: walk.base_address,
+                        entries: 0,
+                    };
+                    return Gathered::Full(rest);
                 }
             }
             LocationAnswer::End(_) => {

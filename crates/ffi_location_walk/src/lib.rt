@@ -40,7 +40,7 @@ pub extern "C" fn yz_location_next(
 ) -> YzLocation
     ensures { λ r. ⌜ left r (now (walk .exit)) ≡ locationNext (now (walk .entry)) (nextLocation (splitIn (now (walk .entry))) (encodingOf encoding) (endianIn encoding) (now (section .entry)) (now («debug_addr» .entry)) (record { 0 = «debug_addr_base» }) (walkIn (now (walk .entry)))) ⌝ }
 {
-    let start = ffi_words::walks::walk_in(walk);
+    let start = ffi_words::walks::start_in(walk);
     let file = ffi_words::walks::file_in(walk);
     let unit = ffi_words::common::encoding_of(encoding);
     let endian = ffi_words::common::endian_in(encoding);

@@ -39,7 +39,7 @@ pub extern "C" fn yz_range_next(
 ) -> YzRange
     ensures { λ r. ⌜ left r (now (walk .exit)) ≡ rangeNext (now (walk .entry)) (nextRange (encodingOf encoding) (endianIn encoding) (now (section .entry)) (now («debug_addr» .entry)) (record { 0 = «debug_addr_base» }) (walkIn (now (walk .entry)))) ⌝ }
 {
-    let start = ffi_words::walks::walk_in(walk);
+    let start = ffi_words::walks::start_in(walk);
     let unit = ffi_words::common::encoding_of(encoding);
     let endian = ffi_words::common::endian_in(encoding);
     let r = lists::rnglists::next(

@@ -24,7 +24,9 @@ ghost use mathlib.Core.Path.{_≡_};
 ghost use Rattle.bytes.specs.Read.{gives};
 ghost use Rattle.entries.specs.Filled.{whole};
 ghost use Rattle.lists.specs.Walk.{item, toldNextLocation, toldRawLocation, toldConvertedLocation};
+ghost use Rattle.lists.specs.Risen.{callRaised};
 ghost use Rattle.lookups.specs.Lookup.{toldLocationFound};
+ghost use Rattle.ffi_words.specs.Walks.{countIn};
 ghost use Rattle.ffi_words.specs.Common.{left, noPart};
 ghost use Rattle.ffi_words.specs.Entries.{expressionIn, expressionTold, toldLocationTaken, entryOnly, locationIn, rawLocationTold, rawLocationNext, convertLocation};
 ghost use Rattle.ffi_words.specs.Locations.{locationTold, noLocation, locationNext, locationOutcome, locationFound};
@@ -85,20 +87,21 @@ fn no_location(done: YzDone) -> YzLocation
     }
 }
 
+// The entries of the call were counted from 0, and are added to those of the walk.
 pub fn location_next(r: LocationAnswer, words: &mut WalkWords) -> YzLocation
-    ensures { λ a. ⌜ left a (now (words .exit)) ≡ locationNext (now (words .entry)) (toldNextLocation r) ⌝ }
+    ensures { λ a. ⌜ left a (now (words .exit)) ≡ locationNext (now (words .entry)) (callRaised (countIn (now (words .entry))) (toldNextLocation r)) ⌝ }
 {
     match r {
         LocationAnswer::Location(location, walk) => {
-            super::walks::hand_back(words, walk);
+            super::walks::hand_on(words, walk);
             location_told(location)
         }
         LocationAnswer::End(walk) => {
-            super::walks::hand_back(words, walk);
+            super::walks::hand_on(words, walk);
             no_location(super::common::comes_to(END))
         }
         LocationAnswer::Refused(e, walk) => {
-            super::walks::hand_back(words, walk);
+            super::walks::hand_on(words, walk);
             no_location(super::common::refused(e))
         }
     }

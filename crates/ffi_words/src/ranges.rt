@@ -22,7 +22,9 @@ ghost use mathlib.Core.Path.{_≡_};
 ghost use Rattle.bytes.specs.Read.{gives};
 ghost use Rattle.entries.specs.Filled.{whole};
 ghost use Rattle.lists.specs.Walk.{item, toldNextRange, toldRawRange, toldConvertedRange};
+ghost use Rattle.lists.specs.Risen.{callRaised};
 ghost use Rattle.lookups.specs.Lookup.{toldRangeFound};
+ghost use Rattle.ffi_words.specs.Walks.{countIn};
 ghost use Rattle.ffi_words.specs.Common.{left};
 ghost use Rattle.ffi_words.specs.Entries.{toldRangeTaken, entryOnly, rangeIn, rawRangeTold, rawRangeNext, convertRange};
 ghost use Rattle.ffi_words.specs.Ranges.{rangeTold, noRange, rangeNext, rangeOutcome, rangeFound};
@@ -68,20 +70,21 @@ fn no_range(done: YzDone) -> YzRange
     }
 }
 
+// The entries of the call were counted from 0, and are added to those of the walk.
 pub fn range_next(r: RangeAnswer, words: &mut WalkWords) -> YzRange
-    ensures { λ a. ⌜ left a (now (words .exit)) ≡ rangeNext (now (words .entry)) (toldNextRange r) ⌝ }
+    ensures { λ a. ⌜ left a (now (words .exit)) ≡ rangeNext (now (words .entry)) (callRaised (countIn (now (words .entry))) (toldNextRange r)) ⌝ }
 {
     match r {
         RangeAnswer::Range(range, walk) => {
-            super::walks::hand_back(words, walk);
+            super::walks::hand_on(words, walk);
             range_told(range)
         }
         RangeAnswer::End(walk) => {
-            super::walks::hand_back(words, walk);
+            super::walks::hand_on(words, walk);
             no_range(super::common::comes_to(END))
         }
         RangeAnswer::Refused(e, walk) => {
-            super::walks::hand_back(words, walk);
+            super::walks::hand_on(words, walk);
             no_range(super::common::refused(e))
         }
     }

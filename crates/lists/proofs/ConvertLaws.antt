@@ -22,7 +22,7 @@ use Rattle.entries.specs.declared.RawRngListEntry.{RawRngListEntry}
 use Rattle.entries.specs.declared.RawRngListEntry.the-variants.{StartLength}
 use Rattle.entries.specs.Told.{found, ended, stepOf}
 use Rattle.entries.proofs.StepLaws.{step-found, step-ended, step-failed}
-use Rattle.lists.specs.Open.{walkAt, movedTo, opened, sectionFor}
+use Rattle.lists.specs.Open.{walkAt, movedTo, readTo, opened, sectionFor}
 use Rattle.lists.specs.Convert.{Turn, range, skip, toldUnchecked, bounded, offsets, passedOf, convert}
 use Rattle.lists.specs.Walk.{Listing, onRaw, nextRaw, outcome, converted, comes}
 use Rattle.lists.specs.declared.Walk.{Walk}
@@ -60,7 +60,7 @@ module _ {r : AddressAnswer} {d : Result ℕ} (f : ℕ → Result Turn) (p : tol
 
 -- opening
 module _ (encoding : Encoding) (s : List ℕ) (offset base : ℕ) where
-  pub opened-list : isSize (encoding .«address_size») ≡ true → offset ≤ length s → opened encoding s offset base ≡ gives (walkAt offset base)
+  pub opened-list : isSize (encoding .«address_size») ≡ true → offset ≤ length s → opened encoding s offset base ≡ gives (walkAt offset base 0)
   unfolding opened
   opened-list h l = simp (h, le-leb _ _ l)
 
@@ -97,10 +97,10 @@ module _ (l : Listing) (size len : ℕ) (w : Walk) where
     raw-is k r q = simp (h, lt-leb _ _ k, q)
 
     module _ (k : w .at < len) where
-      pub raw-entry : {e : l .Entry} {c : ℕ} → gives (found e c) ≡ stepOf (l .read (w .at)) → nextRaw l size len w ≡ hands (gives e) (movedTo c w)
+      pub raw-entry : {e : l .Entry} {c : ℕ} → gives (found e c) ≡ stepOf (l .read (w .at)) → nextRaw l size len w ≡ hands (gives e) (readTo c w)
       raw-entry q = raw-is k _ (step-found (l .read (w .at)) q)
 
-      pub raw-end : gives ended ≡ stepOf (l .read (w .at)) → nextRaw l size len w ≡ ends (movedTo len w)
+      pub raw-end : gives ended ≡ stepOf (l .read (w .at)) → nextRaw l size len w ≡ ends (readTo len w)
       raw-end q = raw-is k _ (step-ended (l .read (w .at)) q .1)
 
       pub raw-failed : {n : ℕ} {vs : List ℕ} → refused n vs ≡ stepOf (l .read (w .at)) → nextRaw l size len w ≡ hands (refused n vs) (movedTo len w)

@@ -8,3 +8,5 @@ pub mod CallLaws
 pub mod Bounds
 pub mod Local
 pub mod SizeLaws
+pub mod CountLaws
+pub mod RisenLaws

@@ -1,5 +1,5 @@
 -- A list that opens has an address size that is read and lies in its section; and what follows an opening, by its answer. Assumes nothing.
-use mathlib.Core.Path.{_≡_, refl}
+use mathlib.Core.Path.{_≡_, refl, subst}
 use mathlib.Core.Bool.{Bool, true, false}
 use mathlib.Core.List.{List}
 use Prim.Native.Nat.{ℕ, _≤_}
@@ -34,15 +34,18 @@ opened-size encoding s offset base {w} q = chosen (isSize (encoding .«address_s
     chosen true x n vs f = refl
     chosen false x n vs f = let z : _≡_ {A = ℕ} 0 1 = cc in absurd (omega arith)
 
--- the walk of a list that opens stands in its section
-pub opened-inside : (encoding : Encoding) (s : List ℕ) (offset base : ℕ) {w : Walk} → opened encoding s offset base ≡ gives w → w .at ≤ length s
+-- the walk of a list that opens, which stands in its section
+pub opened-as : (encoding : Encoding) (s : List ℕ) (offset base : ℕ) {w : Walk} → opened encoding s offset base ≡ gives w → (walkAt offset base 0 ≡ w) × (offset ≤ length s)
 unfolding opened
-opened-inside encoding s offset base {w} q = chosen (isSize (encoding .«address_size»)) _ _ q
+opened-as encoding s offset base {w} q = chosen (isSize (encoding .«address_size»)) _ _ q
   where
-    inner : (t : Bool) → leb offset (length s) ≡ t → (n : ℕ) (vs : List ℕ) → pick t (gives (walkAt offset base)) (refused n vs) ≡ gives w → w .at ≤ length s
-    inner true e n vs f = let z : offset ≡ w .at = cc in omega (arith, leb-true offset (length s) e)
+    inner : (t : Bool) → leb offset (length s) ≡ t → (n : ℕ) (vs : List ℕ) → pick t (gives (walkAt offset base 0)) (refused n vs) ≡ gives w → (walkAt offset base 0 ≡ w) × (offset ≤ length s)
+    inner true e n vs f = let z : walkAt offset base 0 ≡ w = cc in (z, leb-true offset (length s) e)
     inner false e n vs f = let z : _≡_ {A = ℕ} 0 1 = cc in absurd (omega arith)
 
-    chosen : (t : Bool) (n : ℕ) (vs : List ℕ) → pick t (pick (leb offset (length s)) (gives (walkAt offset base)) (refusal UnexpectedEof)) (refused n vs) ≡ gives w → w .at ≤ length s
+    chosen : (t : Bool) (n : ℕ) (vs : List ℕ) → pick t (pick (leb offset (length s)) (gives (walkAt offset base 0)) (refusal UnexpectedEof)) (refused n vs) ≡ gives w → (walkAt offset base 0 ≡ w) × (offset ≤ length s)
     chosen true n vs f = inner (leb offset (length s)) refl _ _ f
     chosen false n vs f = let z : _≡_ {A = ℕ} 0 1 = cc in absurd (omega arith)
+
+pub opened-inside : (encoding : Encoding) (s : List ℕ) (offset base : ℕ) {w : Walk} → opened encoding s offset base ≡ gives w → w .at ≤ length s
+opened-inside encoding s offset base q = let k = opened-as encoding s offset base q in subst (λ (v : Walk). v .at ≤ length s) (k .0) (k .1)

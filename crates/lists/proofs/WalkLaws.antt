@@ -15,7 +15,7 @@ use Rattle.bytes.specs.declared.error.Error.the-variants.{UnsupportedAddressSiz
 use Rattle.bytes.proofs.Order.{lt-or-le}
 use Rattle.tables.specs.Next.{hands}
 use Rattle.entries.specs.Forms.{Raw, stop, entry}
-use Rattle.lists.specs.Open.{movedTo, rebased}
+use Rattle.lists.specs.Open.{movedTo, readTo, rebased}
 use Rattle.lists.specs.Convert.{Turn, range, rebase, skip, convert}
 use Rattle.lists.specs.Walk.{Listing, item, Trace, over, onTurn, onRead, traceFrom, trace, first, next, handed}
 use Rattle.lists.specs.declared.Walk.{Walk}
@@ -39,7 +39,7 @@ module _ (l : Listing) (table : DebugAddrIndex → Result ℕ) (size len : ℕ) 
   read-cong : (w : Walk) (r : Read (Raw (l .Entry))) (f g : Walk → Trace (l .Carried)) → Moved (w .at) len r → ((v : Walk) → w .at < v .at → f v ≡ g v)
       → onRead l table size len w r f ≡ onRead l table size len w r g
   read-cong w (gives (got (entry e) c)) f g p h =
-      turn-cong (convert table size (w .«base_address») (l .boundsOf e)) (l .carried e) (movedTo c w) f g (λ v q. h v (omega (arith, p .0)))
+      turn-cong (convert table size (w .«base_address») (l .boundsOf e)) (l .carried e) (readTo c w) f g (λ v q. h v (omega (arith, p .0)))
   read-cong w (gives (got stop c)) f g p h = refl
   read-cong w (refused n vs) f g p h = refl
 
@@ -64,18 +64,18 @@ module _ (l : Listing) (table : DebugAddrIndex → Result ℕ) (size len : ℕ) 
     trace-step h = enough len (suc len) w (omega arith) (omega arith) ∙ simp (lt-leb _ _ h)
 
     module _ (h : w .at < len) where
-      pub met-end : {c : ℕ} → l .read (w .at) ≡ gives (got stop c) → trace l table size len w ≡ over (movedTo len w)
+      pub met-end : {c : ℕ} → l .read (w .at) ≡ gives (got stop c) → trace l table size len w ≡ over (readTo len w)
       met-end q = trace-step h ∙ ap (λ (r : Read (Raw (l .Entry))). onRead l table size len w r (λ v. trace l table size len v)) q
 
       pub met-refusal : {n : ℕ} {vs : List ℕ} → l .read (w .at) ≡ refused n vs → trace l table size len w ≡ handed (refused n vs) (movedTo len w) (over (movedTo len w))
       met-refusal q = trace-step h ∙ ap (λ (r : Read (Raw (l .Entry))). onRead l table size len w r (λ v. trace l table size len v)) q
 
       pub met-entry : {e : l .Entry} {c : ℕ} {t : Result Turn} → l .read (w .at) ≡ gives (got (entry e) c) → t ≡ convert table size (w .«base_address») (l .boundsOf e)
-          → trace l table size len w ≡ onTurn t (l .carried e) (movedTo c w) (λ v. trace l table size len v)
+          → trace l table size len w ≡ onTurn t (l .carried e) (readTo c w) (λ v. trace l table size len v)
       met-entry {e} {c} q p =
           trace-step h
           ∙ ap (λ (r : Read (Raw (l .Entry))). onRead l table size len w r (λ v. trace l table size len v)) q
-          ∙ ap (λ (x : Result Turn). onTurn x (l .carried e) (movedTo c w) (λ v. trace l table size len v)) (sym p)
+          ∙ ap (λ (x : Result Turn). onTurn x (l .carried e) (readTo c w) (λ v. trace l table size len v)) (sym p)
 
 -- what holds of a list that is over, and of an entry and what follows it where it holds of all that may follow, holds of every walk
 module _ (l : Listing) (table : DebugAddrIndex → Result ℕ) (size len : ℕ) (past : (at : ℕ) → at < len → Moved at len (l .read at))

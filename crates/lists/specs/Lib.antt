@@ -4,3 +4,6 @@ pub mod Walk
 pub mod Yields
 pub mod Walks
 pub mod Sizes
+pub mod Counted
+pub mod Uncounted
+pub mod Risen

@@ -20,7 +20,7 @@ use Rattle.lists.specs.declared.Walk.{Walk}
 pub record WalksAsBefore : Type 1 where
   pub opening : (encoding : Encoding) (s : List ℕ) (offset base : ℕ) → (encoding .«address_size» ≡ 3 → ⊥)
       → opened encoding s offset base
-      ≡ pick (isSizeBefore (encoding .«address_size»)) (pick (leb offset (length s)) (gives (walkAt offset base)) (refusal UnexpectedEof))
+      ≡ pick (isSizeBefore (encoding .«address_size»)) (pick (leb offset (length s)) (gives (walkAt offset base 0)) (refusal UnexpectedEof))
       (refusal (UnsupportedAddressSize (encoding .«address_size»)))
   pub walk : (l : Listing) (table : DebugAddrIndex → Result ℕ) (size len : ℕ) (w : Walk) → (size ≡ 3 → ⊥)
       → next l table size len w

@@ -18,7 +18,7 @@ use Rattle.entries.specs.Listed.{EntryIn, entryIn, readIn}
 use Rattle.entries.specs.declared.Expression.{Expression}
 use Rattle.entries.specs.declared.RawRngListEntry.{RawRngListEntry}
 use Rattle.entries.specs.declared.RawLocListEntry.{RawLocListEntry}
-use Rattle.lists.specs.Open.{movedTo, rebased}
+use Rattle.lists.specs.Open.{movedTo, readTo, rebased}
 use Rattle.lists.specs.Convert.{Turn, range, rebase, skip, convert, tableAt, bounds, expressionOf}
 use Rattle.lists.specs.declared.Walk.{Walk}
 use Rattle.lists.specs.declared.rnglists.RawRangeAnswer.{RawRangeAnswer}
@@ -81,10 +81,10 @@ onTurn (gives (rebase b)) d w go = go (rebased b w)
 onTurn (gives skip) d w go = go w
 onTurn (refused n vs) d w go = handed (refused n vs) w (go w)
 
--- a raw refusal and the end mark empty the walk: its place is then the section's length
+-- a raw refusal and the end mark empty the walk: its place is then the section's length. The end mark was read, what is refused was not
 abbrev pub onRead : (l : Listing) → (DebugAddrIndex → Result ℕ) → ℕ → ℕ → Walk → Read (Raw (l .Entry)) → (Walk → Trace (l .Carried)) → Trace (l .Carried)
-onRead l table size len w (gives (got (entry e) c)) go = onTurn (convert table size (w .«base_address») (l .boundsOf e)) (l .carried e) (movedTo c w) go
-onRead l table size len w (gives (got stop c)) go = over (movedTo len w)
+onRead l table size len w (gives (got (entry e) c)) go = onTurn (convert table size (w .«base_address») (l .boundsOf e)) (l .carried e) (readTo c w) go
+onRead l table size len w (gives (got stop c)) go = over (readTo len w)
 onRead l table size len w (refused n vs) go = handed (refused n vs) (movedTo len w) (over (movedTo len w))
 
 -- from a walk on, at most n entries: each takes a byte at least, so as many as there are bytes are enough
@@ -107,8 +107,8 @@ next l table size len w =
 
 -- the raw entry of a call
 abbrev pub onRaw : {E : Type 0} → ℕ → Walk → Read (Raw E) → Next E Walk
-onRaw len w (gives (got (entry e) c)) = hands (gives e) (movedTo c w)
-onRaw len w (gives (got stop c)) = ends (movedTo len w)
+onRaw len w (gives (got (entry e) c)) = hands (gives e) (readTo c w)
+onRaw len w (gives (got stop c)) = ends (readTo len w)
 onRaw len w (refused n vs) = hands (refused n vs) (movedTo len w)
 
 unfoldable pub nextRaw : (l : Listing) → ℕ → ℕ → Walk → Next (l .Entry) Walk

@@ -12,7 +12,7 @@ use Rattle.tables.specs.Next.{Next, ends, hands}
 use Rattle.entries.specs.Forms.{entry}
 use Rattle.entries.specs.declared.RawLocListEntry.{RawLocListEntry}
 use Rattle.entries.specs.declared.RawLocListEntry.the-variants as loc
-use Rattle.lists.specs.Open.{movedTo}
+use Rattle.lists.specs.Open.{movedTo, readTo}
 use Rattle.lists.specs.Convert.{convert}
 use Rattle.lists.specs.Walk.{Listing, Item, item, Trace, over, trace, next, nextRaw, handed}
 use Rattle.lists.specs.declared.Walk.{Walk}
@@ -35,7 +35,7 @@ pub record EveryWalk (l : Listing) (table : DebugAddrIndex → Result ℕ) (size
   -- a failed lookup loses nothing else: the base stays, and the walk goes on after the entry
   pub lookup-failed : (w : Walk) → w .at < len → {e : l .Entry} {c n : ℕ} {vs : List ℕ}
       → l .read (w .at) ≡ gives (got (entry e) c) → refused n vs ≡ convert table size (w .«base_address») (l .boundsOf e)
-      → trace l table size len w ≡ handed (refused n vs) (movedTo c w) (trace l table size len (movedTo c w))
+      → trace l table size len w ≡ handed (refused n vs) (readTo c w) (trace l table size len (readTo c w))
   -- a raw refusal empties the walk, and then it is over
   pub raw-refused : (w : Walk) → w .at < len → {n : ℕ} {vs : List ℕ} → l .read (w .at) ≡ refused n vs
       → trace l table size len w ≡ handed (refused n vs) (movedTo len w) (over (movedTo len w))

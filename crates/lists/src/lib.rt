@@ -1,5 +1,6 @@
 // Walking range lists and location lists: opening, raw entries, conversion, the next range or location.
 pub mod convert;
+pub mod count;
 pub mod listed;
 pub mod loclists;
 pub mod open;
@@ -8,10 +9,11 @@ pub mod rnglists;
 use bytes::error::Error;
 use entries::Expression;
 
-// A place in the section, and the base address there.
+// A place in the section, the base address there, and how many raw entries were read since the list was opened.
 pub struct Walk {
     pub at: usize,
     pub base_address: u64,
+    pub entries: u64,
 }
 
 // The addresses from begin on, end not among them.

@@ -31,6 +31,7 @@ pub fn next_raw(
 {
     let at = walk.at;
     let base_address = walk.base_address;
+    let entries = walk.entries;
     let size = encoding.address_size as u64;
     if bytes::reader::is_address_size(size) {
         if section.len() <= at {
@@ -42,17 +43,20 @@ pub fn next_raw(
                 Walk {
                     at: c,
                     base_address,
+                    entries: super::count::one_more(entries),
                 },
             ),
             LocationStep::End => RawLocationAnswer::End(Walk {
                 at: section.len(),
                 base_address,
+                entries: super::count::one_more(entries),
             }),
             LocationStep::Refused(e) => RawLocationAnswer::Refused(
                 e,
                 Walk {
                     at: section.len(),
                     base_address,
+                    entries,
                 },
             ),
         };
@@ -62,6 +66,7 @@ pub fn next_raw(
         Walk {
             at: section.len(),
             base_address,
+            entries,
         },
     )
 }
@@ -94,7 +99,11 @@ pub fn convert_raw(
                 LocationListEntry { range, data },
                 walk,
             ),
-            Converted::Base(base_address) => LocationConverted::Nothing(Walk { at, base_address }),
+            Converted::Base(base_address) => LocationConverted::Nothing(Walk {
+                at,
+                base_address,
+                entries: walk.entries,
+            }),
             Converted::Skip => LocationConverted::Nothing(walk),
             Converted::Refused(e) => LocationConverted::Refused(e, walk),
         };
@@ -118,6 +127,7 @@ pub fn next(
 {
     let mut at = walk.at;
     let mut base_address = walk.base_address;
+    let mut read: u64 = 0;
     let size = encoding.address_size as u64;
     if bytes::reader::is_address_size(size) {
         while at < section.len() {
@@ -128,6 +138,7 @@ pub fn next(
                         Walk {
                             at: section.len(),
                             base_address,
+                            entries: super::count::risen(walk.entries, read),
                         },
                     );
                 }
@@ -135,12 +146,15 @@ pub fn next(
                     return LocationAnswer::End(Walk {
                         at: section.len(),
                         base_address,
+                        entries: super::count::risen(walk.entries, read + 1),
                     });
                 }
                 LocationStep::Entry(raw, c) => {
+                    let more = read + 1;
                     let after = Walk {
                         at: c,
                         base_address,
+                        entries: super::count::risen(walk.entries, more),
                     };
                     let bounds = entries::raw::bounds_of(raw);
                     let data = super::convert::expression_of(raw);
@@ -167,16 +181,22 @@ pub fn next(
                         Converted::Skip => {}
                     }
                     at = c;
+                    read = more;
                 }
             }
         }
-        LocationAnswer::End(Walk { at, base_address })
+        LocationAnswer::End(Walk {
+            at,
+            base_address,
+            entries: super::count::risen(walk.entries, read),
+        })
     } else {
         LocationAnswer::Refused(
             Error::UnsupportedAddressSize(size),
             Walk {
                 at: section.len(),
                 base_address,
+                entries: walk.entries,
             },
         )
     }

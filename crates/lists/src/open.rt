@@ -18,6 +18,7 @@ pub(crate) fn open(section: &[u8], offset: u64, encoding: Encoding, base_address
         return Opened::List(Walk {
             at: offset as usize,
             base_address,
+            entries: 0,
         });
     }
     Opened::Refused(Error::UnsupportedAddressSize(size))

@@ -1,5 +1,7 @@
 // Lists of three-byte addresses: walks, lookups and canonical lists, as docs/SCOPE.md has them for every address size. The file stdout
-// has the answers by that page, in hexadecimal: ranges with the walk's place after them.
+// has the answers by that page, in hexadecimal: ranges with the walk's place after them. Then walks and their counts (counts.rt).
+mod counts;
+
 use bytes::Num;
 use bytes::common::DebugAddrBase;
 use bytes::common::Encoding;
@@ -194,4 +196,5 @@ fn calls() {
 fn main() {
     walks();
     calls();
+    counts::counts();
 }

@@ -103,8 +103,8 @@ impl Listing {
         if let Some(place) = ranges {
             self.line(2, &format!("{who}: {}", text::place(place)));
             match context.ranges(place) {
-                Ok(ranges) => ranges.into_iter().for_each(|range| match range {
-                    Ok(range) => self.line(4, &text::range(range)),
+                Ok(ranges) => ranges.into_iter().for_each(|(number, range)| match range {
+                    Ok(range) => self.line(4, &format!("entry {number}: {}", text::range(range))),
                     Err(wrong) => self.wrong(wrong),
                 }),
                 Err(wrong) => self.wrong(wrong),
@@ -113,13 +113,16 @@ impl Listing {
         if let Some(place) = locations {
             self.line(2, &format!("{who}: {}", text::place(place)));
             match context.locations(place) {
-                Ok(locations) => locations.into_iter().for_each(|location| match location {
-                    Ok(location) => {
-                        let told = text::expression(unit, location.expression);
-                        self.line(4, &format!("{}: {told}", text::range(location.range)));
-                    }
-                    Err(wrong) => self.wrong(wrong),
-                }),
+                Ok(locations) => {
+                    locations.into_iter().for_each(|(number, location)| match location {
+                        Ok(location) => {
+                            let range = text::range(location.range);
+                            let told = text::expression(unit, location.expression);
+                            self.line(4, &format!("entry {number}: {range}: {told}"));
+                        }
+                        Err(wrong) => self.wrong(wrong),
+                    })
+                }
                 Err(wrong) => self.wrong(wrong),
             }
         }

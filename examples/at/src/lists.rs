@@ -56,6 +56,9 @@ impl Location {
     }
 }
 
+/// What an entry of a list comes to, with its number in the list, counted from 1.
+pub type Numbered<T> = (u64, Outcome<T>);
+
 /// What a list's entries lean on.
 #[derive(Default)]
 struct Leans {
@@ -99,6 +102,21 @@ impl Context {
 
     fn at(&self, place: Place) -> String {
         format!("{}: the list at {:#x} of {}", self.unit, place.offset, place.section)
+    }
+
+    /// What a walk gives, its refusals told with the number of the entry.
+    fn numbered<T>(
+        &self,
+        place: Place,
+        walk: impl FnMut() -> Option<(u64, yeltzarun::Result<T>)>,
+    ) -> Vec<Numbered<T>> {
+        let Place { section, offset } = place;
+        let at = |number| {
+            format!("{}: entry {number} of the list at {offset:#x} of {section}", self.unit)
+        };
+        std::iter::from_fn(walk)
+            .map(|(number, item)| (number, item.map_err(Wrong::refused(at(number)))))
+            .collect()
     }
 
     fn debug_addr(&self) -> DebugAddr<'static> {
@@ -289,13 +307,24 @@ impl Context {
     }
 
     /// The ranges of a list, each of them or a refusal.
-    pub fn ranges(&self, place: Place) -> Outcome<Vec<Outcome<Range>>> {
+    pub fn ranges(&self, place: Place) -> Outcome<Vec<Numbered<Range>>> {
         let (base_address, table) = self.range_bases(place)?;
         let (lists, offset) = (self.range_lists(), RangeListsOffset(place.offset));
-        let walk = lists
+        let mut walk = lists
             .ranges(offset, self.encoding, base_address, &self.debug_addr(), table)
             .map_err(Wrong::refused(self.at(place)))?;
-        Ok(walk.map(|range| range.map_err(Wrong::refused(self.at(place)))).collect())
+        Ok(self.numbered(place, || {
+            loop {
+                let raw = match walk.next_raw() {
+                    Ok(raw) => raw?,
+                    // What can't be read isn't counted.
+                    Err(refusal) => return Some((walk.entries() + 1, Err(refusal))),
+                };
+                if let Some(range) = walk.convert_raw(raw).transpose() {
+                    return Some((walk.entries(), range));
+                }
+            }
+        }))
     }
 
     /// The locations of a list that hold at an address: the first that the library's lookup finds,
@@ -332,11 +361,11 @@ impl Context {
     }
 
     /// The locations of a list, each of them or a refusal.
-    pub fn locations(&self, place: Place) -> Outcome<Vec<Outcome<Location>>> {
+    pub fn locations(&self, place: Place) -> Outcome<Vec<Numbered<Location>>> {
         let (base_address, table) = self.location_bases(place)?;
         let (lists, offset) = (self.location_lists(), LocationListsOffset(place.offset));
         let debug_addr = self.debug_addr();
-        let walk = match self.file_type {
+        let mut walk = match self.file_type {
             DwarfFileType::Main => {
                 lists.locations(offset, self.encoding, base_address, &debug_addr, table)
             }
@@ -345,8 +374,17 @@ impl Context {
             }
         }
         .map_err(Wrong::refused(self.at(place)))?;
-        Ok(walk
-            .map(|entry| entry.map(Location::of).map_err(Wrong::refused(self.at(place))))
-            .collect())
+        Ok(self.numbered(place, || {
+            loop {
+                let raw = match walk.next_raw() {
+                    Ok(raw) => raw?,
+                    // What can't be read isn't counted.
+                    Err(refusal) => return Some((walk.entries() + 1, Err(refusal))),
+                };
+                if let Some(entry) = walk.convert_raw(raw).transpose() {
+                    return Some((walk.entries(), entry.map(Location::of)));
+                }
+            }
+        }))
     }
 }

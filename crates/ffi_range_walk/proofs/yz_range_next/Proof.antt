@@ -1,10 +1,15 @@
--- `yz_range_next` meets its contract: by the contracts of the calls in it. Assumes nothing.
+-- `yz_range_next` meets its contract: by the contracts of the calls in it; what the call reads is counted from 0 and added. Assumes nothing.
+use mathlib.Core.Path.{ap}
 use borrow.Author.Needs.{needs}
+use Rattle.lists.proofs.RisenLaws.{range-raised}
+use Rattle.ffi_words.specs.Common.{encodingOf, endianIn}
+use Rattle.ffi_words.specs.Walks.{walkIn}
+use Rattle.ffi_words.specs.Ranges.{rangeNext}
 use Rattle.ffi_range_walk.proofs.yz_range_next.Statement.{statement}
 use Rattle.ffi_range_walk.proofs.yz_range_next.Tie as tie
 
-walk-in-requires : tie.Need-walk-in-requires
-walk-in-requires c κs = search needs
+start-in-requires : tie.Need-start-in-requires
+start-in-requires c κs = search needs
 
 encoding-of-requires : tie.Need-encoding-of-requires
 encoding-of-requires c κs = search needs
@@ -19,13 +24,13 @@ range-next-requires : tie.Need-range-next-requires
 range-next-requires c κs = search needs
 
 returns : tie.Need-returns
-returns c = rw (c .range-next .ensures, c .before .before .next .ensures, c .before .before .before .endian-in .ensures, c .before .before .before .before .encoding-of .ensures, c .before .before .before .before .before .walk-in .ensures)
+returns c = rw (c .range-next .ensures, c .before .before .next .ensures, c .before .before .before .endian-in .ensures, c .before .before .before .before .encoding-of .ensures, c .before .before .before .before .before .start-in .ensures) (let a = c .before .before .before .before .before .before .before .before .before .args in ap (rangeNext (a .walk .now)) (range-raised (encodingOf (a .encoding)) (endianIn (a .encoding)) (a .section .now) (a .debug-addr .now) (record { 0 = a .debug-addr-base }) (walkIn (a .walk .now))))
 
 pub yz-range-next-spec : {M : Type 1} → statement M
 yz-range-next-spec =
     tie.close
     (tie.spec
-    walk-in-requires
+    start-in-requires
     encoding-of-requires
     endian-in-requires
     next-requires

@@ -23,17 +23,23 @@ raw-entry-requires c κs = search needs
 enum-known-raw : tie.Need-enum-known-raw
 enum-known-raw c = search needs
 
+one-more-requires : tie.Need-one-more-requires
+one-more-requires c κs = search needs
+
 enum-told : tie.Need-enum-told
 enum-told c = search needs
+
+one-more-requires-2 : tie.Need-one-more-requires-2
+one-more-requires-2 c κs = search needs
 
 enum-known-e : tie.Need-enum-known-e
 enum-known-e c = search needs
 
 returns-2 : tie.Need-returns-2
-returns-2 c = sym (raw-entry (let a = c .before .before .before .before .before .before .before .before .before .args in listed (a .locations) (a .split) (a .encoding) (a .endian) (a .section .now)) _ _ _ (sym (c .before .before .before .before .before .before .is-address-size .ensures) ∙ c .before .before .before .before .before .if1 .taken) (c .before .before .before .before .if2 .left) (sym (ap (λ r. stepIn (c .before .before .before .before .before .before .before .before .before .args .locations) (toldLocation r)) (c .before .raw .given .1)) ∙ c .before .before .before .raw-entry .ensures))
+returns-2 c = rw (c .one-more .ensures) (sym (raw-entry (let a = c .before .before .before .before .before .before .before .before .before .before .args in listed (a .locations) (a .split) (a .encoding) (a .endian) (a .section .now)) _ _ _ (sym (c .before .before .before .before .before .before .before .is-address-size .ensures) ∙ c .before .before .before .before .before .before .if1 .taken) (c .before .before .before .before .before .if2 .left) (sym (ap (λ r. stepIn (c .before .before .before .before .before .before .before .before .before .before .args .locations) (toldLocation r)) (c .before .before .raw .given .1)) ∙ c .before .before .before .before .raw-entry .ensures)))
 
 returns-3 : tie.Need-returns-3
-returns-3 c = sym (raw-end (let a = c .before .before .before .before .before .before .before .before .args in listed (a .locations) (a .split) (a .encoding) (a .endian) (a .section .now)) _ _ _ (sym (c .before .before .before .before .before .is-address-size .ensures) ∙ c .before .before .before .before .if1 .taken) (c .before .before .before .if2 .left) (sym (ap (λ r. stepIn (c .before .before .before .before .before .before .before .before .args .locations) (toldLocation r)) (c .enum-told .given .1)) ∙ c .before .before .raw-entry .ensures))
+returns-3 c = rw (c .one-more2 .ensures) (sym (raw-end (let a = c .before .before .before .before .before .before .before .before .before .args in listed (a .locations) (a .split) (a .encoding) (a .endian) (a .section .now)) _ _ _ (sym (c .before .before .before .before .before .before .is-address-size .ensures) ∙ c .before .before .before .before .before .if1 .taken) (c .before .before .before .before .if2 .left) (sym (ap (λ r. stepIn (c .before .before .before .before .before .before .before .before .before .args .locations) (toldLocation r)) (c .before .enum-told .given .1)) ∙ c .before .before .before .raw-entry .ensures)))
 
 returns-4 : tie.Need-returns-4
 returns-4 c = sym (raw-failed (let a = c .before .before .before .before .before .before .before .before .before .args in listed (a .locations) (a .split) (a .encoding) (a .endian) (a .section .now)) _ _ _ (sym (c .before .before .before .before .before .before .is-address-size .ensures) ∙ c .before .before .before .before .before .if1 .taken) (c .before .before .before .before .if2 .left) (sym (ap (λ r. stepIn (c .before .before .before .before .before .before .before .before .before .args .locations) (toldLocation r)) (c .before .e .given .1)) ∙ c .before .before .before .raw-entry .ensures))
@@ -50,7 +56,9 @@ next-raw-spec =
     returns
     raw-entry-requires
     enum-known-raw
+    one-more-requires
     enum-told
+    one-more-requires-2
     enum-known-e
     returns-2
     returns-3
