@@ -189,6 +189,10 @@ static void layout(void) {
     FIELD(walk, base_address, 8);
     FIELD(walk, entries, 16);
     FIELD(walk, split, 24);
+    SIZE(mark, 40);
+    FIELD(mark, is_set, 0);
+    FIELD(mark, walk, 8);
+    SIZE(marks, 8 * 40);
     SIZE(bounds, 8 * 3000);
     SIZE(range_entry, 24);
     FIELD(range_entry, kind, 0);
@@ -242,9 +246,10 @@ static void layout(void) {
 static void test_version(void) {
     CHECK(yz_version() == YZ_VERSION);
     CHECK(YZ_LIMIT == 3000 && YZ_SHEET_MAX == 48004 && YZ_CANONICAL_MAX == 57001);
+    CHECK(YZ_MARKS == 8);
     layout();
     CHECK(strcmp(yz_refusal_name(YZ_NO_REFUSAL), "") == 0);
-    CHECK(strcmp(yz_refusal_name((yz_refusal)13), "") == 0);
+    CHECK(strcmp(yz_refusal_name((yz_refusal)22), "") == 0);
 }
 
 /* ---- Reads ---- */
@@ -1351,6 +1356,425 @@ static void test_location_lookup(void) {
        0x10, 0x18, 8, 1);
 }
 
+/* ---- Marks ---- */
+
+static yz_marks marks;
+
+/* A walk and its marks, word for word. */
+typedef struct marked {
+    yz_walk walk;
+    yz_marks marks;
+} marked;
+
+static marked now(void) {
+    marked both;
+    both.walk = walk;
+    both.marks = marks;
+    return both;
+}
+
+static bool same_walk(yz_walk other) { return memcmp(&walk, &other, sizeof walk) == 0; }
+static bool is_now(marked both) { return same_walk(both.walk) && memcmp(&marks, &both.marks, sizeof marks) == 0; }
+
+/* A setting: that mark is set to the walk, and all else stays. */
+#define SETS(number)                                                                                                 \
+    do {                                                                                                             \
+        marked then = now();                                                                                         \
+        IS(done, yz_mark_set(number, &walk, &marks), DONE);                                                          \
+        then.marks.at[number].is_set = 1;                                                                            \
+        then.marks.at[number].walk = then.walk;                                                                      \
+        check(is_now(then), __LINE__, "set, and nothing else: " #number);                                            \
+    } while (0)
+
+/* A return: this is the walk, and all marks stay. */
+#define RETURNS(number, at, base_address, entries, split)                                                            \
+    do {                                                                                                             \
+        marked then = now();                                                                                         \
+        IS(done, yz_mark_return(number, &marks, &walk), DONE);                                                       \
+        then.walk = walk;                                                                                            \
+        check(walk_is(at, base_address, entries, split), __LINE__, "the walk of mark " #number);                     \
+        check(is_now(then), __LINE__, "the marks stay: " #number);                                                   \
+    } while (0)
+
+/* A mark that is not there: walk and marks stay. */
+#define NO_SUCH_MARK(call)                                                                                           \
+    do {                                                                                                             \
+        const marked then = now();                                                                                   \
+        IS(done, call, REFUSED(YZ_NO_SUCH_MARK, 0));                                                                 \
+        check(is_now(then), __LINE__, "untouched: " #call);                                                          \
+    } while (0)
+#define NO_SETTING(number) NO_SUCH_MARK(yz_mark_set(number, &walk, &marks))
+#define NO_RETURN(number) NO_SUCH_MARK(yz_mark_return(number, &marks, &walk))
+
+static void no_marks(void) { memset(&marks, 0, sizeof marks); }
+
+/* A walk made by hand, of words that differ. */
+static void walk_of(uint64_t n) {
+    walk_from(n, n + 100, n + 300);
+    walk.entries = n + 200;
+}
+#define RETURNS_WALK_OF(number, n) RETURNS(number, n, (n) + 100, (n) + 200, (n) + 300)
+
+/* Numbers above 7; some are a mark's when they are cut to fewer bits, or times 8. */
+static const uint64_t no_numbers[] = {
+    8, 9, 15, 0x100, 0x10007, UINT64_C(1) << 32, (UINT64_C(1) << 32) + 7, TWO_TO_61, UINT64_C(1) << 63, MAX - 7, MAX,
+};
+#define NO_NUMBERS (sizeof no_numbers / sizeof *no_numbers)
+
+static void test_mark_set(void) {
+    uint64_t i;
+    /* Each number, then again in place of what is there. */
+    no_marks();
+    for (i = 0; i < YZ_MARKS; i++) {
+        walk_of(10 * i);
+        SETS(i);
+    }
+    for (i = YZ_MARKS; i-- > 0;) {
+        walk_of(1000 + 10 * i);
+        SETS(i);
+        SETS(i);
+    }
+    for (i = 0; i < NO_NUMBERS; i++)
+        NO_SETTING(no_numbers[i]);
+    no_marks();
+    for (i = 0; i < NO_NUMBERS; i++)
+        NO_SETTING(no_numbers[i]);
+    /* Whatever the words were. */
+    old(&marks, sizeof marks);
+    SETS(5);
+    NO_SETTING(8);
+    /* Any walk. */
+    walk_from(0, 0, 0);
+    SETS(0);
+    walk_from(MAX, MAX, MAX);
+    walk.entries = MAX;
+    SETS(7);
+    old(&walk, sizeof walk);
+    SETS(6);
+}
+
+/* Three ranges and the end mark, call by call. */
+#define THREE S("\x07\x10\0\0\0\x01\x07\x20\0\0\0\x01\x07\x30\0\0\0\x01\0")
+#define OPENS_THREE OPENS(yz_range_open(THREE, little(5, 4), 0, 0, &walk), 0, 0, 0)
+#define NEXT_IS_10 NEXT(THREE, NO_BYTES, little(5, 4), 6, 0, 1, DONE, 0x10, 0x11)
+#define NEXT_IS_20 NEXT(THREE, NO_BYTES, little(5, 4), 12, 0, 2, DONE, 0x20, 0x21)
+#define NEXT_IS_30 NEXT(THREE, NO_BYTES, little(5, 4), 18, 0, 3, DONE, 0x30, 0x31)
+#define NEXT_IS_END NEXT(THREE, NO_BYTES, little(5, 4), 19, 0, 4, END)
+
+static void marks_of_three_ranges(void) {
+    no_marks();
+    OPENS_THREE;
+    NEXT_IS_10;
+    SETS(0);
+    NEXT_IS_20;
+    NEXT_IS_30;
+    NEXT_IS_END;
+    RETURNS(0, 6, 0, 1, 0);
+    NEXT_IS_20;
+    NEXT_IS_30;
+    NEXT_IS_END;
+    /* At the end there is a walk, too. */
+    SETS(7);
+    /* Two returns, and a setting of another mark between the calls. */
+    RETURNS(0, 6, 0, 1, 0);
+    NEXT_IS_20;
+    SETS(1);
+    RETURNS(0, 6, 0, 1, 0);
+    RETURNS(0, 6, 0, 1, 0);
+    RETURNS(1, 12, 0, 2, 0);
+    NEXT_IS_30;
+    RETURNS(7, 19, 0, 4, 0);
+    NEXT_IS_END;
+    RETURNS(0, 6, 0, 1, 0);
+    NEXT_IS_20;
+    /* A mark that was never set, with others that are. */
+    no_marks();
+    OPENS_THREE;
+    SETS(4);
+    NEXT_IS_10;
+    SETS(6);
+    NO_RETURN(5);
+    NEXT_IS_20;
+    /* A mark set again. */
+    no_marks();
+    OPENS_THREE;
+    NEXT_IS_10;
+    SETS(2);
+    NEXT_IS_20;
+    SETS(2);
+    NEXT_IS_30;
+    RETURNS(2, 12, 0, 2, 0);
+    NEXT_IS_30;
+    /* No mark has the number. */
+    no_marks();
+    OPENS_THREE;
+    NEXT_IS_10;
+    SETS(3);
+    NEXT_IS_20;
+    NO_SETTING(8);
+    NO_RETURN(8);
+    NO_SETTING(MAX);
+    RETURNS(3, 6, 0, 1, 0);
+    NEXT_IS_20;
+    /* A list that is opened again, its marks made 0. */
+    OPENS_THREE;
+    no_marks();
+    NO_RETURN(3);
+    NEXT_IS_10;
+    /* Raw entries, from the same walk. */
+    SETS(0);
+    STEP(raw_range, yz_range_next_raw(THREE, little(5, 4), &walk), 12, 0, 2, DONE, YZ_RLE_START_LENGTH, 0x20, 1);
+    NEXT_IS_30;
+    RETURNS(0, 6, 0, 1, 0);
+    STEP(raw_range, yz_range_next_raw(THREE, little(5, 4), &walk), 12, 0, 2, DONE, YZ_RLE_START_LENGTH, 0x20, 1);
+    /* A place past the section's end. */
+    no_marks();
+    walk_from(99, 0, 0);
+    SETS(0);
+    walk_from(0, 0, 0);
+    RETURNS(0, 99, 0, 0, 0);
+    NEXT(THREE, NO_BYTES, little(5, 4), 99, 0, 0, END);
+}
+
+static void marks_of_ranges(void) {
+    const yz_range_entry other_base = range_entry(YZ_RLE_BASE_ADDRESS, 0x200, 0);
+    marks_of_three_ranges();
+    /* The base address is stored. */
+#define LIST S("\x05\0\x10\0\0\x04\x01\x02\x05\0\x20\0\0\x04\x03\x04\0")
+    no_marks();
+    OPENS(yz_range_open(LIST, little(5, 4), 0, 0, &walk), 0, 0, 0);
+    NEXT(LIST, TABLE, little(5, 4), 8, 0x1000, 2, DONE, 0x1001, 0x1002);
+    SETS(7);
+    NEXT(LIST, TABLE, little(5, 4), 16, 0x2000, 4, DONE, 0x2003, 0x2004);
+    RETURNS(7, 8, 0x1000, 2, 0);
+    NEXT(LIST, TABLE, little(5, 4), 16, 0x2000, 4, DONE, 0x2003, 0x2004);
+#undef LIST
+    /* Another one by a conversion between, and one that is stored. */
+#define LIST S("\x04\x01\x02\x04\x03\x04\0")
+#define CONVERT_BASE(at, entries)                                                                                    \
+    STEP(range, yz_range_convert_raw(TABLE, 8, little(5, 4), other_base, &walk), at, 0x200, entries, COMES_TO_NOTHING)
+    no_marks();
+    OPENS(yz_range_open(LIST, little(5, 4), 0, 0x100, &walk), 0, 0x100, 0);
+    SETS(1);
+    CONVERT_BASE(0, 0);
+    SETS(2);
+    NEXT(LIST, TABLE, little(5, 4), 3, 0x200, 1, DONE, 0x201, 0x202);
+    RETURNS(1, 0, 0x100, 0, 0);
+    NEXT(LIST, TABLE, little(5, 4), 3, 0x100, 1, DONE, 0x101, 0x102);
+    CONVERT_BASE(3, 1);
+    NEXT(LIST, TABLE, little(5, 4), 6, 0x200, 2, DONE, 0x203, 0x204);
+    RETURNS(1, 0, 0x100, 0, 0);
+    CONVERT_BASE(0, 0);
+    NEXT(LIST, TABLE, little(5, 4), 3, 0x200, 1, DONE, 0x201, 0x202);
+    RETURNS(2, 0, 0x200, 0, 0);
+    NEXT(LIST, TABLE, little(5, 4), 3, 0x200, 1, DONE, 0x201, 0x202);
+#undef LIST
+#undef CONVERT_BASE
+    /* A failed lookup is met again. */
+#define LIST S("\x02\0\x02\x03\0\x08\0")
+    no_marks();
+    OPENS(yz_range_open(LIST, little(5, 4), 0, 0, &walk), 0, 0, 0);
+    SETS(0);
+    NEXT(LIST, TABLE, little(5, 4), 3, 0, 1, CUT_SHORT);
+    NEXT(LIST, TABLE, little(5, 4), 6, 0, 2, DONE, 0x10, 0x18);
+    NEXT(LIST, TABLE, little(5, 4), 7, 0, 3, END);
+    RETURNS(0, 0, 0, 0, 0);
+    NEXT(LIST, TABLE, little(5, 4), 3, 0, 1, CUT_SHORT);
+    NEXT(LIST, TABLE, little(5, 4), 6, 0, 2, DONE, 0x10, 0x18);
+#undef LIST
+    /* An emptied walk; and one before the entry that empties it. */
+#define LIST S("\x07\x10\0\0\0\x01\x08\0")
+    no_marks();
+    OPENS(yz_range_open(LIST, little(5, 4), 0, 0, &walk), 0, 0, 0);
+    NEXT(LIST, TABLE, little(5, 4), 6, 0, 1, DONE, 0x10, 0x11);
+    SETS(0);
+    NEXT(LIST, TABLE, little(5, 4), 8, 0, 1, REFUSED(YZ_UNKNOWN_RANGE_LISTS_ENTRY, 8));
+    SETS(1);
+    NEXT(LIST, TABLE, little(5, 4), 8, 0, 1, END);
+    RETURNS(0, 6, 0, 1, 0);
+    NEXT(LIST, TABLE, little(5, 4), 8, 0, 1, REFUSED(YZ_UNKNOWN_RANGE_LISTS_ENTRY, 8));
+    RETURNS(1, 8, 0, 1, 0);
+    NEXT(LIST, TABLE, little(5, 4), 8, 0, 1, END);
+#undef LIST
+    /* An address size that is not read: 6 is for the call that reads. */
+    no_marks();
+    walk_from(0, 0, 0);
+    SETS(0);
+    RETURNS(0, 0, 0, 0, 0);
+    NEXT(S("\0"), TABLE, little(5, 5), 1, 0, 0, BAD_SIZE(5));
+    SETS(1);
+    RETURNS(0, 0, 0, 0, 0);
+    NEXT(S("\0"), TABLE, little(5, 5), 1, 0, 0, BAD_SIZE(5));
+    RETURNS(1, 1, 0, 0, 0);
+    NEXT(S("\0"), TABLE, little(5, 5), 1, 0, 0, BAD_SIZE(5));
+    /* Bare pairs, with counts handed in; the word for split lists is stored, too. */
+#define LIST S("\xff\xff\0\x20\x01\0\x03\0\x05\0\x06\0\0\0\0\0")
+    no_marks();
+    ranges_from(0, 0);
+    walk.entries = MAX - 2;
+    NEXT(LIST, TABLE, little(4, 2), 8, 0x2000, MAX, DONE, 0x2001, 0x2003);
+    SETS(3);
+    NEXT(LIST, TABLE, little(4, 2), 12, 0x2000, MAX, DONE, 0x2005, 0x2006);
+    walk_from(0, 0, 0);
+    RETURNS(3, 8, 0x2000, MAX, OLD_WORD);
+    NEXT(LIST, TABLE, little(4, 2), 12, 0x2000, MAX, DONE, 0x2005, 0x2006);
+#undef LIST
+}
+
+static void marks_of_locations(void) {
+    const yz_location_entry other_base = entry(YZ_LLE_BASE_ADDRESS, 0x200, 0);
+    /* A plain list and a split one; each is left for the other. */
+#define LIST S("\x08\x10\0\0\0\x01\x01\x50\x08\x20\0\0\0\x01\x01\x51\0")
+#define SPLIT S("\x06\0\x10\0\0\x04\x01\x02\0\0\x04\x03\x03\0\0\x04\x05\x06\x01\0\x50\0")
+    no_marks();
+    OPENS(yz_location_open(LIST, little(5, 4), MAIN, 0, 0, &walk), 0, 0, 0);
+    LNEXT(LIST, TABLE, little(5, 4), 8, 0, 1, DONE, 0x10, 0x11, 7, 1);
+    SETS(0);
+    LNEXT(LIST, TABLE, little(5, 4), 16, 0, 2, DONE, 0x20, 0x21, 15, 1);
+    LNEXT(LIST, TABLE, little(5, 4), 17, 0, 3, END);
+    RETURNS(0, 8, 0, 1, 0);
+    LNEXT(LIST, TABLE, little(5, 4), 16, 0, 2, DONE, 0x20, 0x21, 15, 1);
+    OPENS(yz_location_open(SPLIT, little(4, 4), DWO, 0, 0, &walk), 0, 0, 1);
+    LNEXT(SPLIT, TABLE, little(4, 4), 10, 0x1000, 2, DONE, 0x1001, 0x1002, 10, 0);
+    SETS(7);
+    LNEXT(SPLIT, TABLE, little(4, 4), 21, 0x1000, 4, DONE, 0x1005, 0x1006, 20, 1);
+    RETURNS(0, 8, 0, 1, 0);
+    LNEXT(LIST, TABLE, little(5, 4), 16, 0, 2, DONE, 0x20, 0x21, 15, 1);
+    RETURNS(7, 10, 0x1000, 2, 1);
+    LNEXT(SPLIT, TABLE, little(4, 4), 21, 0x1000, 4, DONE, 0x1005, 0x1006, 20, 1);
+    LNEXT(SPLIT, TABLE, little(4, 4), 22, 0x1000, 5, END);
+#undef LIST
+    /* Raw entries of the split list, and another base by a conversion between. */
+    RETURNS(7, 10, 0x1000, 2, 1);
+    STEP(raw_location, yz_location_next_raw(SPLIT, little(4, 4), &walk), 15, 0x1000, 3, DONE, YZ_LLE_OFFSET_PAIR, 3, 3, 15, 0);
+    STEP(location, yz_location_convert_raw(TABLE, 8, little(4, 4), other_base, &walk), 15, 0x200, 3, COMES_TO_NOTHING);
+    LNEXT(SPLIT, TABLE, little(4, 4), 21, 0x200, 4, DONE, 0x205, 0x206, 20, 1);
+    RETURNS(7, 10, 0x1000, 2, 1);
+    STEP(raw_location, yz_location_next_raw(SPLIT, little(4, 4), &walk), 15, 0x1000, 3, DONE, YZ_LLE_OFFSET_PAIR, 3, 3, 15, 0);
+    LNEXT(SPLIT, TABLE, little(4, 4), 21, 0x1000, 4, DONE, 0x1005, 0x1006, 20, 1);
+#undef SPLIT
+    /* A failed lookup is met again, in a walk whose word for split lists is no 1. */
+#define LIST S("\x03\x02\x08\0\0\0\0\0\x03\0\x08\0\0\0\x01\0\x50\0")
+    no_marks();
+    walk_from(0, 0, UINT64_C(1) << 32);
+    SETS(4);
+    LNEXT(LIST, TABLE, little(4, 4), 8, 0, 1, CUT_SHORT);
+    LNEXT(LIST, TABLE, little(4, 4), 17, 0, 2, DONE, 0x10, 0x18, 16, 1);
+    NO_RETURN(3);
+    walk_from(0, 0, 0);
+    RETURNS(4, 0, 0, 0, UINT64_C(1) << 32);
+    LNEXT(LIST, TABLE, little(4, 4), 8, 0, 1, CUT_SHORT);
+    LNEXT(LIST, TABLE, little(4, 4), 17, 0, 2, DONE, 0x10, 0x18, 16, 1);
+#undef LIST
+    /* An emptied walk, and an address size that is not read. */
+    no_marks();
+    OPENS(yz_location_open(S("\x09\0"), little(4, 4), DWO, 0, 0x100, &walk), 0, 0x100, 1);
+    SETS(0);
+    LNEXT(S("\x09\0"), TABLE, little(4, 4), 2, 0x100, 0, REFUSED(YZ_UNKNOWN_LOC_LISTS_ENTRY, 9));
+    SETS(1);
+    RETURNS(0, 0, 0x100, 0, 1);
+    LNEXT(S("\x09\0"), TABLE, little(4, 5), 2, 0x100, 0, BAD_SIZE(5));
+    RETURNS(0, 0, 0x100, 0, 1);
+    LNEXT(S("\x09\0"), TABLE, little(4, 4), 2, 0x100, 0, REFUSED(YZ_UNKNOWN_LOC_LISTS_ENTRY, 9));
+    RETURNS(1, 2, 0x100, 0, 1);
+    LNEXT(S("\x09\0"), TABLE, little(4, 4), 2, 0x100, 0, END);
+}
+
+/* A setting before each of eight calls; then, from the last mark to the first, a return and the calls that followed: they
+ * answer as they did, and leave the walk as they did. */
+#define ANSWERS_AGAIN(type, call)                                                                                    \
+    do {                                                                                                             \
+        fields answers[YZ_MARKS];                                                                                    \
+        yz_walk walks[YZ_MARKS];                                                                                     \
+        uint64_t i, j;                                                                                               \
+        no_marks();                                                                                                  \
+        for (i = 0; i < YZ_MARKS; i++) {                                                                             \
+            SETS(i);                                                                                                 \
+            answers[i] = of_##type(call);                                                                            \
+            walks[i] = walk;                                                                                         \
+        }                                                                                                            \
+        for (i = YZ_MARKS; i-- > 0;) {                                                                               \
+            IS(done, yz_mark_return(i, &marks, &walk), DONE);                                                        \
+            for (j = i; j < YZ_MARKS; j++) {                                                                         \
+                same(of_##type(call), answers[j].at, __LINE__, #call);                                               \
+                check(same_walk(walks[j]), __LINE__, "the walk after " #call);                                       \
+            }                                                                                                        \
+        }                                                                                                            \
+    } while (0)
+
+static void answers_again(void) {
+    /* Lookups that fail, entries that are skipped, a base, the end; the same entries raw. */
+#define LIST S("\x02\0\x02\x03\x01\x08\x05\x20\0\0\0\x04\x01\x02\x04\x03\x03\x01\x07\x04\x05\x06\x01\x01\x04\x07\x08\0")
+    ranges_from(0, 7);
+    ANSWERS_AGAIN(range, yz_range_next(LIST, TABLE, 8, little(5, 4), &walk));
+    ranges_from(0, 7);
+    ANSWERS_AGAIN(raw_range, yz_range_next_raw(LIST, little(5, 4), &walk));
+#undef LIST
+    ranges_from(0, 7);
+    ANSWERS_AGAIN(range, yz_range_next(S("\x01\x03\xff\x20\x01\x03\x05\x06\x07"), NO_BYTES, 0, big(3, 1), &walk));
+#define LIST S("\x02\0\x02\0\x03\x01\x08\x01\x50\x06\x20\0\0\0\x04\x01\x02\0\x05\x01\x51\x01\x07\x04\x05\x06\0\x09")
+    walk_from(0, 7, 0);
+    ANSWERS_AGAIN(location, yz_location_next(LIST, TABLE, 8, little(5, 4), &walk));
+    walk_from(0, 7, 1);
+    ANSWERS_AGAIN(raw_location, yz_location_next_raw(LIST, little(5, 4), &walk));
+#undef LIST
+#define LIST S("\x03\x02\x08\0\0\0\0\0\x03\x01\x08\0\0\0\x01\0\x50\x06\x20\0\0\0\x04\x01\x02\0\0\x05\0\0\0")
+    walk_from(0, 7, 1);
+    ANSWERS_AGAIN(location, yz_location_next(LIST, TABLE, 8, little(4, 4), &walk));
+    walk_from(0, 7, MAX);
+    ANSWERS_AGAIN(raw_location, yz_location_next_raw(LIST, little(4, 4), &walk));
+#undef LIST
+    walk_from(0, 7, 0);
+#define LIST S("\x01\x03\0\0\xff\x20\x01\x03\0\x01\x50\x05\x06\0\0\x07")
+    ANSWERS_AGAIN(location, yz_location_next(LIST, NO_BYTES, 0, big(3, 1), &walk));
+#undef LIST
+}
+
+static void test_mark_return(void) {
+    const uint64_t set[] = {1, 2, 0x100, UINT64_C(1) << 32, UINT64_C(1) << 63, MAX};
+    uint64_t i, j;
+    /* None is set, whatever walks stand there. */
+    no_marks();
+    walk_of(5);
+    for (i = 0; i < YZ_MARKS; i++)
+        NO_RETURN(i);
+    old(&marks, sizeof marks);
+    for (i = 0; i < YZ_MARKS; i++)
+        marks.at[i].is_set = 0;
+    for (i = 0; i < YZ_MARKS; i++)
+        NO_RETURN(i);
+    /* One is set. */
+    for (i = 0; i < YZ_MARKS; i++) {
+        no_marks();
+        walk_of(10 * i);
+        SETS(i);
+        walk_of(5);
+        for (j = 0; j < YZ_MARKS; j++)
+            if (j != i)
+                NO_RETURN(j);
+        RETURNS_WALK_OF(i, 10 * i);
+    }
+    /* All are set. */
+    for (i = 0; i < YZ_MARKS; i++) {
+        walk_of(10 * i);
+        SETS(i);
+    }
+    for (i = 0; i < NO_NUMBERS; i++)
+        NO_RETURN(no_numbers[i]);
+    for (i = YZ_MARKS; i-- > 0;)
+        RETURNS_WALK_OF(i, 10 * i);
+    /* By any word but 0. */
+    for (i = 0; i < sizeof set / sizeof *set; i++) {
+        marks.at[i].is_set = set[i];
+        RETURNS_WALK_OF(i, 10 * i);
+    }
+    marks.at[7].is_set = 0;
+    NO_RETURN(7);
+    marks_of_ranges();
+    marks_of_locations();
+    answers_again();
+}
+
 /* ---- Coverage ---- */
 
 static yz_bounds begins, ends;
@@ -1991,6 +2415,8 @@ static const struct { const char *name; void (*run)(void); } tests[] = {
     {"yz_location_convert_raw", test_location_convert_raw},
     {"yz_expression", test_expression},
     {"yz_location_lookup", test_location_lookup},
+    {"yz_mark_set", test_mark_set},
+    {"yz_mark_return", test_mark_return},
     {"yz_range_coverage", test_range_coverage},
     {"yz_range_runs", test_range_runs},
     {"yz_location_coverage", test_location_coverage},
@@ -2013,7 +2439,7 @@ int main(int argc, char **argv) {
         return 0;
     }
     if (argc > 1 && strcmp(argv[1], "--refusals") == 0) {
-        for (i = YZ_UNEXPECTED_EOF; i <= YZ_BAD_SHEET; i++)
+        for (i = YZ_UNEXPECTED_EOF; i <= YZ_DESCENDING_ADDRESSES; i++)
             printf("%u %s\n", (unsigned)i, yz_refusal_name((yz_refusal)i));
         return 0;
     }

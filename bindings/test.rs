@@ -67,6 +67,8 @@ const TESTS: &[Test] = &[
     ("yz_location_convert_raw", location_convert_raw),
     ("yz_expression", expression),
     ("yz_location_lookup", location_lookup),
+    ("yz_mark_set", mark_set),
+    ("yz_mark_return", mark_return),
     ("yz_range_coverage", range_coverage),
     ("yz_range_runs", range_runs),
     ("yz_location_coverage", location_coverage),
@@ -85,6 +87,7 @@ const MORE_TESTS: &[Test] = &[
     ("Error", errors),
     ("Error::MixedByteOrders", byte_orders),
     ("Iterator", iterators),
+    ("Marked", marked),
     ("the end of every walk", ends),
 ];
 
@@ -94,7 +97,7 @@ fn main() -> ExitCode {
         return ExitCode::SUCCESS;
     }
     if std::env::args().any(|word| word == "--refusals") {
-        (1..=12).for_each(|n| println!("{n} {}", Error::from_number(n, 0).name()));
+        (1..=21).for_each(|n| println!("{n} {}", Error::from_number(n, 0).name()));
         return ExitCode::SUCCESS;
     }
     let mut checks = Checks::default();
@@ -151,8 +154,9 @@ fn join(parts: &[&[u8]]) -> Vec<u8> {
 
 fn versions(c: &mut Checks) {
     c.same(version(), VERSION);
-    c.same(VERSION, 5);
+    c.same(VERSION, 6);
     c.same((LIMIT, SHEET_MAX, CANONICAL_MAX), (3000, 48_004, 57_001));
+    c.same(MARKS, 8);
 }
 
 fn errors(c: &mut Checks) {
@@ -160,14 +164,15 @@ fn errors(c: &mut Checks) {
     c.same((e.number(), e.value(), e.name()), (4, Some(9), "UnknownLocListsEntry"));
     c.same(e.to_string(), "4 UnknownLocListsEntry 0x9".to_string());
     c.same((EOF.number(), EOF.value(), EOF.to_string()), (1, None, "1 UnexpectedEof".to_string()));
-    for number in 0..20 {
+    for number in 0..30 {
         let e = Error::from_number(number, 7);
         c.same((e.number(), e.value().unwrap_or(7)), (number, 7));
-        c.same(e == Error::Unknown(number, 7), !(1..=12).contains(&number));
+        c.same(e == Error::Unknown(number, 7), !(1..=21).contains(&number));
     }
     let unknown = Error::from_number(u64::MAX, u64::MAX);
     c.same(unknown, Error::Unknown(u64::MAX, u64::MAX));
-    c.same(Error::from_number(13, 9).to_string(), "13 Unknown 0x9".to_string());
+    c.same(Error::from_number(22, 9).to_string(), "22 Unknown 0x9".to_string());
+    c.same((NO_MARK.to_string(), NO_MARK.value()), ("13 NoSuchMark".to_string(), None));
     let mixed = Error::MixedByteOrders;
     c.same((mixed.number(), mixed.value(), mixed.name()), (0, None, "MixedByteOrders"));
 }
@@ -1346,6 +1351,213 @@ fn location_lookup(c: &mut Checks) {
     c.same(lookup(Little, 16, 0), Err(EOF));
 }
 
+// Marks
+
+const NO_MARK: Error = Error::NoSuchMark;
+/// Numbers above 7; some are a mark's when they are cut to fewer bits, or times 8.
+const NO_NUMBERS: [u64; 10] =
+    [8, 9, 15, 0x100, 0x1_0007, 1 << 32, (1 << 32) + 7, TWO_TO_61, 1 << 63, u64::MAX];
+/// Three ranges and the end mark.
+const THREE: &[u8] = &[7, 0x10, 0, 0, 0, 1, 7, 0x20, 0, 0, 0, 1, 7, 0x30, 0, 0, 0, 1, 0];
+
+fn three_ranges() -> [Result<Option<Range>>; 3] {
+    [at(0x10, 0x11), at(0x20, 0x21), at(0x30, 0x31)].map(|range| Ok(Some(range)))
+}
+
+/// A walk, with its marks where it has some, word for word.
+fn words(walk: &impl Debug) -> String {
+    format!("{walk:?}")
+}
+
+/// Which marks are set, in the order of their numbers.
+fn set_marks<W: Debug>(walk: &Marked<W>) -> Vec<u64> {
+    let told = words(walk);
+    let marks = told.split("is_set: ").skip(1).zip(0..);
+    marks.filter(|(mark, _)| !mark.starts_with('0')).map(|(_, number)| number).collect()
+}
+
+fn marked_ranges(bytes: &[u8], encoding: Encoding, base_address: u64) -> Marked<RngListIter<'_>> {
+    Marked::new(open_ranges(bytes, encoding, base_address))
+}
+
+/// The next range, and the walk's place and count then.
+fn next_range(walk: &mut RngListIter<'_>) -> Step<Range> {
+    (walk.next(), walk.place(), walk.entries())
+}
+
+/// The same of a location.
+fn next_location<'a>(walk: &mut LocListIter<'a>) -> Step<Told<'a>> {
+    (walk.next().map(|found| found.map(told)), walk.place(), walk.entries())
+}
+
+/// A call that is refused with 13 and leaves walk and marks as they were.
+#[track_caller]
+fn no_mark<W: Debug>(
+    c: &mut Checks,
+    walk: &mut Marked<W>,
+    call: impl Fn(&mut Marked<W>, u64) -> Result<()>,
+    number: u64,
+) {
+    let before = words(walk);
+    c.same((call(walk, number), words(walk)), (Err(NO_MARK), before));
+}
+
+fn mark_set(c: &mut Checks) {
+    let mut walk = marked_ranges(THREE, encoding(5, 4), 0);
+    c.same(set_marks(&walk), vec![]);
+    for number in NO_NUMBERS {
+        no_mark(c, &mut walk, Marked::set_mark, number);
+    }
+    // The walk stays, and each mark has its place.
+    for number in 0..8 {
+        let before = words(&*walk);
+        c.same((walk.set_mark(number), words(&*walk)), (Ok(()), before));
+        c.same(set_marks(&walk), (0..=number).collect());
+    }
+    for number in NO_NUMBERS {
+        no_mark(c, &mut walk, Marked::set_mark, number);
+    }
+    // A mark set again, at another place and at the same one.
+    let [first, second, third] = three_ranges();
+    let mut again = walk.clone();
+    c.same((again.next(), again.set_mark(2), again.set_mark(2)), (first, Ok(()), Ok(())));
+    c.same((again.next(), again.set_mark(2), again.next()), (second, Ok(()), third));
+    c.same((again.return_to(2), next_range(&mut again)), (Ok(()), (third, 18, 3)));
+    c.same((again.return_to(3), next_range(&mut again)), (Ok(()), (first, 6, 1)));
+    // A copy has marks of its own.
+    c.same((walk.return_to(2), next_range(&mut walk)), (Ok(()), (first, 6, 1)));
+}
+
+fn mark_return(c: &mut Checks) {
+    let five = encoding(5, 4);
+    let [first, second, third] = three_ranges();
+    let behind = [(second, 12, 2), (third, 18, 3), (Ok(None), 19, 4)];
+    let mut walk = marked_ranges(THREE, five, 0);
+    for number in (0..8).chain(NO_NUMBERS) {
+        no_mark(c, &mut walk, Marked::return_to, number);
+    }
+    c.same((next_range(&mut walk), walk.set_mark(0)), ((first, 6, 1), Ok(())));
+    c.same([(); 3].map(|_| next_range(&mut walk)), behind);
+    c.same((walk.return_to(0), walk.place(), walk.entries()), (Ok(()), 6, 1));
+    c.same([(); 3].map(|_| next_range(&mut walk)), behind);
+    // Two returns, and a setting of another mark between the calls; no return changes a mark.
+    c.same(
+        (walk.return_to(0), next_range(&mut walk), walk.set_mark(1)),
+        (Ok(()), behind[0], Ok(())),
+    );
+    for (number, place, entries) in [(0, 6, 1), (0, 6, 1), (1, 12, 2), (0, 6, 1)] {
+        c.same((walk.return_to(number), walk.place(), walk.entries()), (Ok(()), place, entries));
+        c.same(set_marks(&walk), vec![0, 1]);
+    }
+    // A mark that was never set.
+    no_mark(c, &mut walk, Marked::return_to, 5);
+    c.same(next_range(&mut walk), behind[0]);
+    // No mark has the number.
+    let mut walk = marked_ranges(THREE, five, 0);
+    c.same((walk.next(), walk.set_mark(3), walk.next()), (first, Ok(()), second));
+    no_mark(c, &mut walk, Marked::set_mark, 8);
+    no_mark(c, &mut walk, Marked::return_to, 8);
+    no_mark(c, &mut walk, Marked::set_mark, u64::MAX);
+    c.same((walk.return_to(3), next_range(&mut walk)), (Ok(()), behind[0]));
+    // Each number, from a place of its own.
+    let mut walk = marked_ranges(RANGE_KINDS, encoding(5, 1), 0);
+    let places = [(0, 0), (2, 1), (5, 2), (8, 3), (11, 4), (13, 5), (16, 6), (19, 7)];
+    for number in 0..8 {
+        c.same((walk.set_mark(number), walk.next_raw().is_ok()), (Ok(()), true));
+    }
+    for number in [7, 0, 6, 1, 5, 2, 4, 3] {
+        let (place, entries) = places[number as usize];
+        c.same((walk.return_to(number), walk.place(), walk.entries()), (Ok(()), place, entries));
+    }
+    for number in NO_NUMBERS {
+        no_mark(c, &mut walk, Marked::return_to, number);
+    }
+    c.same(walk.next_raw(), Ok(Some(range_kinds()[3])));
+    returns_in_ranges(c);
+    returns_in_locations(c);
+}
+
+fn returns_in_ranges(c: &mut Checks) {
+    let five = encoding(5, 4);
+    let is = |begin, end| Ok(Some(at(begin, end)));
+    // The base address is stored.
+    let bases = [5, 0, 0x10, 0, 0, 4, 1, 2, 5, 0, 0x20, 0, 0, 4, 3, 4, 0];
+    let mut walk = marked_ranges(&bases, five, 0);
+    c.same((next_range(&mut walk), walk.set_mark(7)), ((is(0x1001, 0x1002), 8, 2), Ok(())));
+    let other = (is(0x2003, 0x2004), 16, 4);
+    c.same((next_range(&mut walk), walk.return_to(7), walk.place()), (other, Ok(()), 8));
+    let pair = RawRngListEntry::OffsetPair { begin: 1, end: 2 };
+    c.same(walk.convert_raw(pair), is(0x1001, 0x1002));
+    c.same(next_range(&mut walk), other);
+    // Another one by a conversion between.
+    let mut walk = marked_ranges(&[4, 1, 2, 4, 3, 4, 0], five, 0x100);
+    let base = RawRngListEntry::BaseAddress { addr: 0x200 };
+    c.same((walk.set_mark(1), walk.convert_raw(base)), (Ok(()), Ok(None)));
+    c.same((walk.set_mark(2), walk.next()), (Ok(()), is(0x201, 0x202)));
+    c.same((walk.return_to(1), walk.next()), (Ok(()), is(0x101, 0x102)));
+    c.same((walk.convert_raw(base), walk.next()), (Ok(None), is(0x203, 0x204)));
+    c.same((walk.return_to(2), walk.next()), (Ok(()), is(0x201, 0x202)));
+    // A failed lookup is met again.
+    let mut walk = marked_ranges(&[2, 0, 2, 3, 0, 8, 0], five, 0);
+    let behind = [(Err(EOF), 3, 1), (is(0x10, 0x18), 6, 2), (Ok(None), 7, 3)];
+    c.same((walk.set_mark(0), [(); 3].map(|_| next_range(&mut walk))), (Ok(()), behind));
+    c.same((walk.return_to(0), [(); 3].map(|_| next_range(&mut walk))), (Ok(()), behind));
+    // An emptied walk; and one before the entry that empties it.
+    let mut walk = marked_ranges(&[7, 0x10, 0, 0, 0, 1, 8, 0], five, 0);
+    let unknown = (Err(Error::UnknownRangeListsEntry(8)), 8, 1);
+    c.same((walk.next(), walk.set_mark(0)), (is(0x10, 0x11), Ok(())));
+    c.same((next_range(&mut walk), walk.set_mark(1)), (unknown, Ok(())));
+    c.same((walk.return_to(0), next_range(&mut walk)), (Ok(()), unknown));
+    c.same((walk.return_to(1), next_range(&mut walk)), (Ok(()), (Ok(None), 8, 1)));
+    // Bare pairs.
+    let bare = [0xff, 0xff, 0, 0x20, 1, 0, 3, 0, 5, 0, 6, 0, 0, 0, 0, 0];
+    let mut walk = marked_ranges(&bare, encoding(4, 2), 0);
+    c.same((next_range(&mut walk), walk.set_mark(6)), ((is(0x2001, 0x2003), 8, 2), Ok(())));
+    let behind = [(is(0x2005, 0x2006), 12, 3), (Ok(None), 16, 4)];
+    c.same([(); 2].map(|_| next_range(&mut walk)), behind);
+    c.same((walk.return_to(6), [(); 2].map(|_| next_range(&mut walk))), (Ok(()), behind));
+}
+
+fn returns_in_locations(c: &mut Checks) {
+    let (five, four) = (encoding(5, 4), encoding(4, 4));
+    let plain = [8, 0x10, 0, 0, 0, 1, 1, 0x50, 8, 0x20, 0, 0, 0, 1, 1, 0x51, 0];
+    let mut walk = Marked::new(open_locations(&plain, five, false, 0));
+    let first = Ok(Some((at(0x10, 0x11), &[0x50][..], 7)));
+    let behind = [(Ok(Some((at(0x20, 0x21), &[0x51][..], 15))), 16, 2), (Ok(None), 17, 3)];
+    c.same((next_location(&mut walk), walk.set_mark(0)), ((first, 8, 1), Ok(())));
+    c.same([(); 2].map(|_| next_location(&mut walk)), behind);
+    c.same((walk.return_to(0), [(); 2].map(|_| next_location(&mut walk))), (Ok(()), behind));
+    // A split list, its base and its count; raw entries, and another base between.
+    let mut walk = Marked::new(open_locations(SPLIT_BASE_AND_PAIRS, four, true, 0));
+    let first = Ok(Some((at(0x1001, 0x1002), &[][..], 10)));
+    let behind = [(Ok(Some((at(0x1005, 0x1006), &[][..], 20))), 20, 4), (Ok(None), 22, 5)];
+    c.same((next_location(&mut walk), walk.set_mark(7)), ((first, 10, 2), Ok(())));
+    c.same([(); 2].map(|_| next_location(&mut walk)), behind);
+    c.same((walk.return_to(7), walk.entries()), (Ok(()), 2));
+    let data = Expression::in_section(SPLIT_BASE_AND_PAIRS, 15, 0);
+    let skipped = RawLocListEntry::OffsetPair { begin: 3, end: 3, data };
+    c.same((walk.next_raw(), walk.place()), (Ok(Some(skipped)), 15));
+    c.same(walk.convert_raw(RawLocListEntry::BaseAddress { addr: 0x200 }), Ok(None));
+    c.same(walk.next().map(|found| found.map(told)), Ok(Some((at(0x205, 0x206), &[][..], 20))));
+    c.same((walk.return_to(7), walk.next_raw()), (Ok(()), Ok(Some(skipped))));
+    c.same(next_location(&mut walk), behind[0]);
+    no_mark(c, &mut walk, Marked::return_to, 6);
+    no_mark(c, &mut walk, Marked::set_mark, 8);
+    c.same(next_location(&mut walk), behind[1]);
+    // Whether a list is split is stored, too. As no split one it has a bare pair whose begin is above
+    // its end, of three bytes of expression, and then too few bytes.
+    let gnu = [3, 2, 8, 0, 0, 0, 0, 0, 3, 0, 8, 0, 0, 0, 1, 0, 0x50, 0];
+    let mut walk = Marked::new(open_locations(&gnu, four, true, 0));
+    let found = (Ok(Some((at(0x10, 0x18), &[0x50][..], 16))), 17, 2);
+    let behind = [(Err(EOF), 8, 1), found, (Ok(None), 18, 3)];
+    c.same((walk.set_mark(4), [(); 3].map(|_| next_location(&mut walk))), (Ok(()), behind));
+    *walk = open_locations(&gnu, four, false, 0);
+    let cut = (Err(EOF), 18, 1);
+    c.same((walk.set_mark(5), next_location(&mut walk)), (Ok(()), cut));
+    c.same((walk.return_to(4), [(); 3].map(|_| next_location(&mut walk))), (Ok(()), behind));
+    c.same((walk.return_to(5), next_location(&mut walk)), (Ok(()), cut));
+}
+
 // Coverage, sheets, canonical lists
 
 fn is(coverage: Result<Coverage>) -> Result<Vec<Range>> {
@@ -1856,6 +2068,79 @@ fn is_canonical(c: &mut Checks) {
 
 // Beside the calls
 
+/// Bytes in no order, the same in every run.
+fn byte_source() -> impl FnMut() -> u8 {
+    let mut seed = 1u64;
+    move || {
+        seed = seed.wrapping_mul(6364136223846793005).wrapping_add(1442695040888963407);
+        (seed >> 56) as u8
+    }
+}
+
+/// Calls, settings and returns in any order, beside a copy of the walk for each mark.
+fn beside_copies<W: ListWalk + Clone + Debug>(
+    c: &mut Checks,
+    byte: &mut impl FnMut() -> u8,
+    opened: W,
+    call: impl Fn(&mut W, u8) -> String,
+) {
+    for _ in 0..20 {
+        let (mut plain, mut copies) = (opened.clone(), vec![None; 8]);
+        let mut walk = Marked::new(opened.clone());
+        for _ in 0..40 {
+            // Of ten numbers two are no mark's.
+            let (choice, number) = (byte(), byte() % 10);
+            let copy = copies.get_mut(usize::from(number));
+            match choice % 8 {
+                0 | 1 => {
+                    let expected = copy.map(|copy| *copy = Some(plain.clone()));
+                    c.same(walk.set_mark(number.into()), expected.ok_or(NO_MARK));
+                }
+                2 | 3 => {
+                    let expected = copy.and_then(|copy| copy.clone()).map(|copy| plain = copy);
+                    c.same(walk.return_to(number.into()), expected.ok_or(NO_MARK));
+                }
+                _ => c.same(call(&mut walk, choice), call(&mut plain, choice)),
+            }
+            c.same(words(&*walk), words(&plain));
+        }
+    }
+}
+
+fn marked(c: &mut Checks) {
+    let [first, second, third] = three_ranges();
+    let mut walk = marked_ranges(THREE, encoding(5, 4), 0);
+    c.same((walk.next(), walk.set_mark(0)), (first, Ok(())));
+    let rest = vec![second.transpose().unwrap(), third.transpose().unwrap()];
+    c.same((walk.by_ref().collect::<Vec<_>>(), walk.return_to(0)), (rest.clone(), Ok(())));
+    c.same(walk.into_walk().collect::<Vec<_>>(), rest);
+
+    let mut byte = byte_source();
+    let (four, five, one) = (encoding(4, 4), encoding(5, 4), encoding(5, 1));
+    let in_ranges = |walk: &mut RngListIter<'_>, choice: u8| match choice % 8 {
+        4 => words(&walk.next_raw()),
+        5 => words(&walk.convert_raw(RawRngListEntry::BaseAddress { addr: choice.into() })),
+        _ => words(&walk.next()),
+    };
+    beside_copies(c, &mut byte, open_ranges(BASE_AND_PAIRS, five, 0), in_ranges);
+    beside_copies(c, &mut byte, open_ranges(RANGE_KINDS, one, 7), in_ranges);
+    let raw = range_lists(RANGE_KINDS, Little).raw_ranges(RangeListsOffset(0), one).unwrap();
+    beside_copies(c, &mut byte, raw, |walk, _| words(&walk.next()));
+    let in_locations = |walk: &mut LocListIter<'_>, choice: u8| match choice % 8 {
+        4 => words(&walk.next_raw()),
+        5 => words(&walk.convert_raw(RawLocListEntry::BaseAddress { addr: choice.into() })),
+        _ => words(&walk.next()),
+    };
+    beside_copies(c, &mut byte, open_locations(LOCATION_KINDS, one, false, 7), in_locations);
+    beside_copies(c, &mut byte, open_locations(SPLIT_BASE_AND_PAIRS, four, true, 0), in_locations);
+    let (plain, at_0) = (location_lists(LOCATION_KINDS, Little), LocationListsOffset(0));
+    let raw = plain.raw_locations(at_0, one).unwrap();
+    beside_copies(c, &mut byte, raw, |walk, _| words(&walk.next()));
+    let split = location_lists(SPLIT_BASE_AND_PAIRS, Little);
+    let raw = split.raw_locations_dwo(at_0, four).unwrap();
+    beside_copies(c, &mut byte, raw, |walk, _| words(&walk.next()));
+}
+
 /// Every call over a list and a table in two orders says so; a table without bytes has no order.
 fn byte_orders(c: &mut Checks) {
     let bytes = [3, 0, 8, 0, 0];
@@ -1936,11 +2221,7 @@ fn iterators(c: &mut Checks) {
 /// Whatever its bytes and its encoding, a walk is refused when it is opened or has an end, which
 /// stays: no more items than bytes, since each call reads one at least.
 fn ends(c: &mut Checks) {
-    let mut seed = 1u64;
-    let mut byte = || {
-        seed = seed.wrapping_mul(6364136223846793005).wrapping_add(1442695040888963407);
-        (seed >> 56) as u8
-    };
+    let mut byte = byte_source();
     let table = DebugAddr::new(TABLE, Little);
     let (base, at_0, l_at_0) = (DebugAddrBase(8), RangeListsOffset(0), LocationListsOffset(0));
     for size in 0..=255 {

@@ -2,10 +2,10 @@
  *
  * Every call ends, reads no byte outside the bytes that it is lent, and answers every input; nothing has to be checked
  * before it. The caller sees to it that a pointer and its length name readable bytes, or numbers where the pointer is to these
- * (the pointer may be NULL where the length is 0), that a pointer to a walk, a place, a part or bounds is not NULL, that what a
- * call writes to can be written and shares no byte with anything else that it is lent, and that no other thread writes what is
- * lent. The library is for x86-64. How much stack a call takes, YZ_STACK and the two behind it say. Its functions have no
- * unwind tables: they throw nothing and call nothing of the caller, but a backtrace taken inside one, as by a signal, stops
+ * (the pointer may be NULL where the length is 0), that a pointer to a walk, marks, a place, a part or bounds is not NULL, that
+ * what a call writes to can be written and shares no byte with anything else that it is lent, and that no other thread writes
+ * what is lent. The library is for x86-64. How much stack a call takes, YZ_STACK and the two behind it say. Its functions have
+ * no unwind tables: they throw nothing and call nothing of the caller, but a backtrace taken inside one, as by a signal, stops
  * there.
  *
  * An answer is a struct. It begins with `result`; with YZ_REFUSED, `refusal` is the refusal's number and `refusal_value` its
@@ -56,7 +56,7 @@ extern "C" {
 #endif
 
 /* The version of this interface; it changes with every change of a struct, a number or a call. */
-#define YZ_VERSION 5
+#define YZ_VERSION 6
 
 /* The version of the library that is linked; the header is for it where this is YZ_VERSION. */
 uint32_t yz_version(void);
@@ -70,7 +70,7 @@ typedef enum yz_result {
     YZ_REFUSED = 4    /* refusal and refusal_value say why */
 } yz_result;
 
-/* The refusals by number; refusal_value where there is one. */
+/* The refusals by number; refusal_value where there is one. No call gives 14 to 21 yet. */
 typedef enum yz_refusal {
     YZ_NO_REFUSAL = 0,                /* with every result but YZ_REFUSED */
     YZ_UNEXPECTED_EOF = 1,            /* bytes are missing */
@@ -84,7 +84,16 @@ typedef enum yz_refusal {
     YZ_UNSUPPORTED_OFFSET = 9,        /* a product or a sum is at or above 2^64 */
     YZ_TOO_MANY_RANGES = 10,          /* a yielded range past YZ_LIMIT is met */
     YZ_NO_SPACE = 11,                 /* an output is shorter than the result */
-    YZ_BAD_SHEET = 12                 /* no lawful sheet */
+    YZ_BAD_SHEET = 12,                /* no lawful sheet */
+    YZ_NO_SUCH_MARK = 13,             /* a mark's number is above 7, or the mark returned to is not set */
+    YZ_BAD_SPAN = 14,                 /* a span's begin is above its end */
+    YZ_PADDED_NUMBER = 15,            /* a LEB128 number has a shorter form */
+    YZ_TOMBSTONE = 16,                /* a base address or a begin is at or above the tombstone bound */
+    YZ_BACKWARD_RANGE = 17,           /* a range's begin is above its end */
+    YZ_ADDRESS_TOO_LARGE = 18,        /* a range is too large for the address size of an older list */
+    YZ_BAD_KIND_TABLE = 19,           /* no table of kind numbers */
+    YZ_TOO_MANY_ADDRESSES = 20,       /* more than 64 addresses */
+    YZ_DESCENDING_ADDRESSES = 21      /* an address is above the one after it */
 } yz_refusal;
 
 /* The name of a refusal; "" for YZ_NO_REFUSAL and for a number that is none. */
@@ -103,6 +112,15 @@ static inline const char *yz_refusal_name(yz_refusal refusal) {
     case YZ_TOO_MANY_RANGES: return "TooManyRanges";
     case YZ_NO_SPACE: return "NoSpace";
     case YZ_BAD_SHEET: return "BadSheet";
+    case YZ_NO_SUCH_MARK: return "NoSuchMark";
+    case YZ_BAD_SPAN: return "BadSpan";
+    case YZ_PADDED_NUMBER: return "PaddedNumber";
+    case YZ_TOMBSTONE: return "Tombstone";
+    case YZ_BACKWARD_RANGE: return "BackwardRange";
+    case YZ_ADDRESS_TOO_LARGE: return "AddressTooLarge";
+    case YZ_BAD_KIND_TABLE: return "BadKindTable";
+    case YZ_TOO_MANY_ADDRESSES: return "TooManyAddresses";
+    case YZ_DESCENDING_ADDRESSES: return "DescendingAddresses";
     }
     return "";
 }
@@ -183,6 +201,18 @@ typedef struct yz_walk {
     uint64_t entries;      /* how many entries were read since it was opened, the end mark among them; 2^64 - 1 stays */
     uint64_t split;        /* not 0: a location list of a .dwo file, as told at its opening; range lists don't read it */
 } yz_walk;
+
+/* How many marks a walk has; they are numbered from 0 on. */
+#define YZ_MARKS 8
+
+/* A mark of a walk. */
+typedef struct yz_mark {
+    uint64_t is_set; /* not 0: the mark is set; setting writes 1 */
+    yz_walk walk;    /* what it stores, where it is set */
+} yz_mark;
+
+/* The marks of one walk, each at its number. All bytes 0: none is set. */
+typedef struct yz_marks { yz_mark at[YZ_MARKS]; } yz_marks;
 
 /* An entry of a range list as it is written. */
 typedef struct yz_range_entry {
@@ -447,6 +477,23 @@ yz_location yz_location_convert_raw(const uint8_t *debug_addr, size_t debug_addr
 
 /* For an expression that was not read from the section: the part itself where it lies in there, else 0 and 0. */
 yz_part yz_expression(const uint8_t *section, size_t section_len, yz_part expression);
+
+/* ---- Marks, to leave a list and return. They belong to one walk, of a range list or of a location list; the caller makes them
+ * all 0 when the list is opened, so that none is set. Walks of an address table (yz_table_next, yz_table_entry_next) have none.
+ * A return is to a walk over the same sections: to the same reading calls with the same arguments, no return among them, it
+ * answers as it did after the setting.
+ *
+ * Neither call reads a section. Any walk is stored and brought back, also one past its section's end, an emptied one and one
+ * made by hand; with an address size that is not read, 6 waits for the next call that reads. Done, or refused: 13 and nothing
+ * else. A refused call writes nothing. ---- */
+
+/* Stores the walk whole, entries and split included, in a mark, in place of what was there. The walk and the other marks stay.
+ * Refused: 13 for a number above 7. */
+yz_done yz_mark_set(uint64_t number, const yz_walk *walk, yz_marks *marks);
+
+/* Brings back the walk that a mark stores, exactly; every mark stays. Refused: 13 for a number above 7, and for a mark that is
+ * not set. */
+yz_done yz_mark_return(uint64_t number, const yz_marks *marks, yz_walk *walk);
 
 /* ---- Lookups: the first entry that holds an address. Done, not there, or refused as opening and .._next are, where that is
  * met before the entry. ---- */

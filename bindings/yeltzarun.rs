@@ -4,7 +4,8 @@
 //! Every call ends and answers every input; what can't be read gets a numbered [`Error`]. A section
 //! is a lent slice with a byte order; a list and the address table that it is read with have the
 //! same one, or are refused with [`Error::MixedByteOrders`]. Every walk has an end, since opening
-//! refuses an address size that isn't read. A walk is an [`Iterator`] too, as in gimli.
+//! refuses an address size that isn't read. A walk is an [`Iterator`] too, as in gimli, and one that is
+//! [`Marked`] can be left and returned to.
 //!
 //! A [`Coverage`] is held by value, 16 × [`LIMIT`] bytes wherever it stands. A call that makes one of
 //! a list takes less than 70 × [`LIMIT`] bytes of stack, and 100 × where nothing is optimized; one
@@ -37,6 +38,13 @@
 //! let walk = lists.locations_dwo(offset, encoding, 0, &debug_addr, base)?;
 //! assert_eq!(walk.filter_map(Result::ok).count(), 1);
 //!
+//! // A walk with marks: each call after a return answers as it did after the setting.
+//! let mut walk = Marked::new(lists.locations_dwo(offset, encoding, 0, &debug_addr, base)?);
+//! walk.set_mark(0)?;
+//! let first = walk.next()?;
+//! walk.return_to(0)?;
+//! assert_eq!((walk.entries(), walk.next()?), (0, first));
+//!
 //! let dwo = DwarfFileType::Dwo;
 //! let found = lists.lookup(offset, encoding, dwo, 0, &debug_addr, base, 0x18)?;
 //! assert_eq!(found, None);
@@ -68,6 +76,8 @@ mod iterators;
 mod lists;
 #[path = "yeltzarun/loclists.rs"]
 mod loclists;
+#[path = "yeltzarun/marks.rs"]
+mod marks;
 #[path = "yeltzarun/reader.rs"]
 mod reader;
 #[path = "yeltzarun/rnglists.rs"]
@@ -86,15 +96,16 @@ pub use common::{
 pub use coverage::{CANONICAL_MAX, CanonicalList, Coverage, SHEET_MAX, Sheet};
 pub use entries::{Expression, LocationListEntry, Range, RawLocListEntry, RawRngListEntry};
 pub use error::{Error, Result};
-pub use ffi::LIMIT;
+pub use ffi::{LIMIT, MARKS};
 pub use lists::ListsHeader;
 pub use loclists::{LocListIter, LocationLists, RawLocListIter};
+pub use marks::{ListWalk, Marked};
 pub use reader::{EndianSlice, ReaderAddress};
 pub use rnglists::{RangeLists, RawRngListIter, RngListIter};
 pub use section::{DebugAddr, DebugLoc, DebugLocLists, DebugRanges, DebugRngLists};
 
 /// The version of the interface that this wrapper is for.
-pub const VERSION: u32 = 5;
+pub const VERSION: u32 = 6;
 
 /// The version of the library that is linked. Where it isn't [`VERSION`], its answers can't be
 /// understood.

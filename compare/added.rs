@@ -26,8 +26,16 @@ pub struct Kept {
     pub ends: [u64; MOST],
 }
 
+/// A walk in words: place, base address, entries, and the word that says whether
+/// its list is split.
+pub type Words = [u64; 4];
+
+/// Of each mark the word that says whether it is set, and the walk's words.
+pub type Marks = [[u64; 5]; 8];
+
 /// The calls compared. A call that makes a coverage writes it to `kept`, or its
-/// ranges to the front of two slices.
+/// ranges to the front of two slices. Those of marks are compared in `marks`; walk
+/// and marks are whatever a call leaves there.
 pub trait Added: Port {
     fn coverage(&self, list: &List, kept: &mut Kept) -> Wrote;
     fn runs(&self, list: &List, begins: &mut [u64], ends: &mut [u64]) -> Wrote;
@@ -36,6 +44,8 @@ pub trait Added: Port {
     fn sheet(&self, n: u64, kept: &Kept, output: &mut [u8]) -> Wrote;
     fn canonical(&self, n: u64, kept: &Kept, output: &mut [u8]) -> Wrote;
     fn canonical_of(&self, list: &List, output: &mut [u8]) -> Wrote;
+    fn set_mark(&self, number: u64, walk: &mut Words, marks: &mut Marks) -> Result<(), Refusal>;
+    fn return_to(&self, number: u64, walk: &mut Words, marks: &mut Marks) -> Result<(), Refusal>;
 }
 
 pub fn no<T>(number: u8) -> Result<T, Refusal> {

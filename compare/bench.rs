@@ -34,7 +34,7 @@ mod bench_sets;
 #[allow(dead_code)]
 mod elf;
 
-use bench_gimli::{Covering, Heading, Lists, Putting, Seeking, Walking, Writing};
+use bench_gimli::{Covering, Heading, Lists, Marking, Putting, Seeking, Walking, Writing};
 use bench_rows::{Kind, Row, Task};
 use oracle::endianity::RunTimeEndian;
 use std::hint::black_box;
@@ -55,6 +55,7 @@ fn sides(row: &Row) -> [Run<'_>; 3] {
         Task::Sheet => sheets(row),
         Task::FromSheet => from_sheets(row),
         Task::Headers => headers(row),
+        Task::Marks => marks(row),
     }
 }
 
@@ -165,6 +166,23 @@ fn headers(row: &Row) -> [Run<'_>; 3] {
         Box::new(move |passes| bench_gimli::headers(&one, passes)),
         Box::new(move |passes| bench_gimli::headers(&several, passes)),
     ]
+}
+
+fn marks(row: &Row) -> [Run<'_>; 3] {
+    let (one, several) = (Lists::<Marking>::new(row), Lists::<RunTimeEndian>::new(row));
+    if row.kind == Kind::Ranges {
+        [
+            Box::new(|passes| bench_port::mark_ranges(row, passes)),
+            Box::new(move |passes| bench_gimli::mark_ranges(&one, passes)),
+            Box::new(move |passes| bench_gimli::mark_ranges(&several, passes)),
+        ]
+    } else {
+        [
+            Box::new(|passes| bench_port::mark_locations(row, passes)),
+            Box::new(move |passes| bench_gimli::mark_locations(&one, passes)),
+            Box::new(move |passes| bench_gimli::mark_locations(&several, passes)),
+        ]
+    }
 }
 
 /// Both sides must have read the same before anything is timed.

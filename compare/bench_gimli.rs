@@ -3,9 +3,9 @@
 //!
 //! Over `RunTimeEndian` all loops of the program share one `next`, which stays
 //! a call ("several callers"). Each of the byte orders `Walking`, `Seeking`,
-//! `Covering`, `Putting`, `Writing`, `Heading` is a `RunTimeEndian` under another
-//! name, so that its `next` has one caller and is inlined there ("one caller");
-//! those with `Real` before are for loops over many lists.
+//! `Covering`, `Putting`, `Writing`, `Heading`, `Marking` is a `RunTimeEndian` under
+//! another name, so that its `next` has one caller and is inlined there ("one
+//! caller"); those with `Real` before are for loops over many lists.
 
 use crate::bench_rows::{Kind, Row};
 use oracle::common::{DebugAddrBase, Encoding, Format, LocationListsOffset, RangeListsOffset};
@@ -38,7 +38,7 @@ macro_rules! orders {
     };
 }
 
-orders! { Walking Seeking Covering Putting Writing Heading }
+orders! { Walking Seeking Covering Putting Writing Heading Marking }
 orders! { RealWalking RealSeeking RealCovering RealPutting RealWriting }
 
 /// A byte order that the program chooses when it runs.
@@ -124,10 +124,21 @@ pub fn walk_ranges<E: Order>(lists: &Lists<'_, E>, passes: u64) -> u64 {
 
 #[inline(always)]
 pub fn walk_ranges_once<E: Order>(lists: &Lists<'_, E>, offset: u64) -> Result<u64, Error> {
+    walk_ranges_with(lists, offset, |_| {})
+}
+
+/// Behind each entry something is done with the walk.
+#[inline(always)]
+fn walk_ranges_with<'a, E: Order>(
+    lists: &Lists<'a, E>,
+    offset: u64,
+    mut behind: impl FnMut(&mut RngListIter<Slice<'a, E>>),
+) -> Result<u64, Error> {
     let mut walk = lists.open_ranges(offset)?;
     let mut sum = 0u64;
     while let Some(range) = walk.next()? {
         sum = sum.wrapping_add(range.begin) ^ range.end;
+        behind(&mut walk);
     }
     Ok(sum)
 }
@@ -142,13 +153,80 @@ pub fn walk_locations<E: Order>(lists: &Lists<'_, E>, passes: u64) -> u64 {
 
 #[inline(always)]
 pub fn walk_locations_once<E: Order>(lists: &Lists<'_, E>, offset: u64) -> Result<u64, Error> {
+    walk_locations_with(lists, offset, |_| {})
+}
+
+#[inline(always)]
+fn walk_locations_with<'a, E: Order>(
+    lists: &Lists<'a, E>,
+    offset: u64,
+    mut behind: impl FnMut(&mut LocListIter<Slice<'a, E>>),
+) -> Result<u64, Error> {
     let mut walk = lists.open_locations(offset)?;
     let mut sum = 0u64;
     while let Some(entry) = walk.next()? {
         let (place, length) = (lists.place(&entry), entry.data.0.len() as u64);
         sum = (sum.wrapping_add(entry.range.begin) ^ entry.range.end).wrapping_add(place) ^ length;
+        behind(&mut walk);
     }
     Ok(sum)
+}
+
+/// The marks of a walk in plain Rust, and which is next.
+struct Marks<W> {
+    marks: [Option<W>; 8],
+    next: u64,
+}
+
+impl<W> Marks<W> {
+    fn new() -> Marks<W> {
+        Marks { marks: [const { None }; 8], next: 0 }
+    }
+
+    /// gimli's walks have no `clone`. They own nothing, so that a copy is as good.
+    #[inline(always)]
+    fn copy(walk: &W) -> W {
+        const { assert!(!std::mem::needs_drop::<W>()) };
+        unsafe { std::ptr::read(walk) }
+    }
+
+    #[inline(always)]
+    fn set(&mut self, number: u64, walk: &W) -> Option<()> {
+        *self.marks.get_mut(number as usize)? = Some(Self::copy(walk));
+        Some(())
+    }
+
+    #[inline(always)]
+    fn stored(&self, number: u64) -> Option<W> {
+        self.marks.get(number as usize)?.as_ref().map(Self::copy)
+    }
+
+    /// Sets a mark and returns to it, each time the next one.
+    #[inline(always)]
+    fn there_and_back(&mut self, walk: &mut W) {
+        let number = black_box(self.next);
+        self.next = (number + 1) % 8;
+        self.set(number, walk).expect("a mark");
+        *walk = black_box(&*self).stored(number).expect("a mark that is set");
+    }
+}
+
+#[inline(never)]
+pub fn mark_ranges<E: Order>(lists: &Lists<'_, E>, passes: u64) -> u64 {
+    repeat!(passes, {
+        let (lists, mut marks) = (black_box(lists), Marks::new());
+        walk_ranges_with(lists, lists.offset, |walk| marks.there_and_back(walk))
+            .unwrap_or_else(|error| refused(error))
+    })
+}
+
+#[inline(never)]
+pub fn mark_locations<E: Order>(lists: &Lists<'_, E>, passes: u64) -> u64 {
+    repeat!(passes, {
+        let (lists, mut marks) = (black_box(lists), Marks::new());
+        walk_locations_with(lists, lists.offset, |walk| marks.there_and_back(walk))
+            .unwrap_or_else(|error| refused(error))
+    })
 }
 
 fn holds(range: &Range, address: u64) -> bool {

@@ -54,6 +54,17 @@ pub fn walk_ranges(row: &Row, passes: u64) -> u64 {
 
 #[inline(never)]
 pub fn walk_ranges_once(row: &Row, encoding: &Encoding, offset: u64) -> u64 {
+    walk_ranges_with(row, encoding, offset, |_| {})
+}
+
+/// Behind each entry something is done with the walk.
+#[inline(always)]
+fn walk_ranges_with(
+    row: &Row,
+    encoding: &Encoding,
+    offset: u64,
+    mut behind: impl FnMut(&mut Walk),
+) -> u64 {
     let ((s, n, t, m), encoding, table_base) = (lent(row), *encoding, row.table_base);
     let (mut walk, mut sum) = (Walk::default(), 0u64);
     let opened = unsafe { yz_range_open(s, n, encoding, offset, row.base_address, &mut walk) };
@@ -67,6 +78,7 @@ pub fn walk_ranges_once(row: &Row, encoding: &Encoding, offset: u64) -> u64 {
             END => return sum,
             _ => refused(next.refusal),
         }
+        behind(&mut walk);
     }
 }
 
@@ -81,6 +93,16 @@ pub fn walk_locations(row: &Row, passes: u64) -> u64 {
 
 #[inline(never)]
 pub fn walk_locations_once(row: &Row, encoding: &Encoding, offset: u64) -> u64 {
+    walk_locations_with(row, encoding, offset, |_| {})
+}
+
+#[inline(always)]
+fn walk_locations_with(
+    row: &Row,
+    encoding: &Encoding,
+    offset: u64,
+    mut behind: impl FnMut(&mut Walk),
+) -> u64 {
     let ((s, n, t, m), encoding, table_base) = (lent(row), *encoding, row.table_base);
     let (mut walk, mut sum) = (Walk::default(), 0u64);
     let (file, base) = (file_type(row), row.base_address);
@@ -95,7 +117,49 @@ pub fn walk_locations_once(row: &Row, encoding: &Encoding, offset: u64) -> u64 {
             END => return sum,
             _ => refused(next.refusal),
         }
+        behind(&mut walk);
     }
+}
+
+/// Sets a mark and returns to it, each time the next one.
+#[inline(always)]
+fn there_and_back(marks: &mut Marks, next: &mut u64, walk: &mut Walk) {
+    let number = black_box(*next);
+    *next = (number + 1) % 8;
+    let set = yz_mark_set(number, walk, marks);
+    if set.result != DONE {
+        refused(set.refusal);
+    }
+    let back = yz_mark_return(number, marks, walk);
+    if back.result != DONE {
+        refused(back.refusal);
+    }
+}
+
+#[inline(never)]
+pub fn mark_ranges(row: &Row, passes: u64) -> u64 {
+    let encoding = encoding(row);
+    repeat!(passes, mark_ranges_once(black_box(row), black_box(&encoding)))
+}
+
+#[inline(never)]
+fn mark_ranges_once(row: &Row, encoding: &Encoding) -> u64 {
+    let (mut marks, mut next) = (Marks::default(), 0);
+    let behind = |walk: &mut Walk| there_and_back(&mut marks, &mut next, walk);
+    walk_ranges_with(row, encoding, row.offset, behind)
+}
+
+#[inline(never)]
+pub fn mark_locations(row: &Row, passes: u64) -> u64 {
+    let encoding = encoding(row);
+    repeat!(passes, mark_locations_once(black_box(row), black_box(&encoding)))
+}
+
+#[inline(never)]
+fn mark_locations_once(row: &Row, encoding: &Encoding) -> u64 {
+    let (mut marks, mut next) = (Marks::default(), 0);
+    let behind = |walk: &mut Walk| there_and_back(&mut marks, &mut next, walk);
+    walk_locations_with(row, encoding, row.offset, behind)
 }
 
 /// The sum of a location, behind its begin.

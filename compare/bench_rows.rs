@@ -24,6 +24,8 @@ pub enum Task {
     FromSheet,
     /// The headers of the address section, one after the other.
     Headers,
+    /// The walk, and behind each entry a mark is set and returned to.
+    Marks,
 }
 
 /// A list, what its reading depends on, and the task. `yields` is how many
@@ -494,6 +496,15 @@ fn growth(rows: &mut Rows<'_>) {
     }
 }
 
+/// Beside rows without marks that are named the same.
+fn marks(rows: &mut Rows<'_>) {
+    for (word, kind) in [("range-7", Kind::Ranges), ("location-8", Kind::Locations)] {
+        let plan = Plan::new(kind, Pattern::All(StartLength), 8, false);
+        let name = format!("marks-{word}-8-little-1000");
+        rows.add(name, |name| Row { task: Task::Marks, ..plan.row(name, 0..1000) });
+    }
+}
+
 pub fn rows(wanted: &dyn Fn(&str) -> bool) -> Vec<Row> {
     let mut rows = Rows { wanted, rows: Vec::new() };
     walks(&mut rows);
@@ -502,5 +513,6 @@ pub fn rows(wanted: &dyn Fn(&str) -> bool) -> Vec<Row> {
     sheets(&mut rows);
     headers(&mut rows);
     growth(&mut rows);
+    marks(&mut rows);
     rows.rows
 }

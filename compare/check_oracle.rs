@@ -81,6 +81,7 @@ fn main() {
     refusals(&mut check);
     rules(&mut check);
     counts(&mut check);
+    marks(&mut check);
     open_points(&mut check);
     differences(&mut check);
     println!("{} examples, {} differ", check.run, check.wrong);
@@ -491,6 +492,48 @@ fn counts(c: &mut Check) {
         vec![1, 2, 3, 4, 4],
     );
     c.same("counted: raw walk, cut", counts(&list(Ranges, &pairs[..13])), vec![1, 2, 3, 3, 3]);
+}
+
+/// gimli has no marks: a return is a new walk, brought there by the calls of
+/// `next` that led to the mark.
+fn marks(c: &mut Check) {
+    let end = Answer::End;
+    let stands = |[place, base_address, entries]: [u64; 3]| State { place, base_address, entries };
+    // The walk behind so many calls, and the other answers, each with the walk then.
+    let mut same = |name: &str, l: &List, calls, stated: &[(Answer<Yielded>, [u64; 3])]| {
+        let mut w = Walk::open(l).unwrap();
+        (0..calls).for_each(|_| _ = w.next());
+        let opened = [l.offset, l.base_address, 0];
+        let back = if calls == 0 { opened } else { stated[calls - 1].1 };
+        c.same(name, w.state(), stands(back));
+        for &(answer, then) in &stated[calls..] {
+            c.same(name, (w.next(), w.state()), (answer, stands(then)));
+        }
+    };
+
+    let b = bytes("07 10 00 00 00 01 07 20 00 00 00 01 07 30 00 00 00 01 00");
+    let l = list(Kind::Ranges, &b);
+    let stated = [
+        (range(0x10, 0x11), [6, 0, 1]),
+        (range(0x20, 0x21), [0xc, 0, 2]),
+        (range(0x30, 0x31), [0x12, 0, 3]),
+        (end, [0x13, 0, 4]),
+    ];
+    same("marks: the walk", &l, 0, &stated);
+    same("marks: set behind one", &l, 1, &stated);
+    same("marks: set again behind two", &l, 2, &stated);
+
+    let b = bytes("05 00 10 00 00 04 01 02 05 00 20 00 00 04 03 04 00");
+    let l = list(Kind::Ranges, &b);
+    let stated =
+        [(range(0x1001, 0x1002), [8, 0x1000, 2]), (range(0x2003, 0x2004), [16, 0x2000, 4])];
+    same("marks: two bases", &l, 0, &stated);
+    same("marks: set with the first base", &l, 1, &stated);
+
+    let (table, b) = (bytes(TABLE), bytes("02 00 02 03 00 08 00"));
+    let l = List { table: &table, table_base: 8, ..list(Kind::Ranges, &b) };
+    let stated = [(refused(1, 0), [3, 0, 1]), (range(0x10, 0x18), [6, 0, 2]), (end, [7, 0, 3])];
+    same("marks: set before a failed lookup", &l, 0, &stated);
 }
 
 fn open_points(c: &mut Check) {

@@ -10,7 +10,7 @@
 use std::collections::BTreeMap;
 use std::fmt::Debug;
 
-use generator::{Case, ConvertCase, ListCase, READ, Random};
+use generator::{Case, ConvertCase, ListCase, READ, Random, RawCase};
 use oracle::oracle_api::{self as gimli, *};
 
 use crate::added::{self, Added};
@@ -173,6 +173,19 @@ impl Met {
         };
         count(self, &name, measure.err());
         self.measured(by_model, |met| met.same(&name, &measure, &call(port)))
+    }
+
+    /// Counts as left out what `compare` compares, with the model that has the
+    /// page's rules.
+    pub fn leaving_out(
+        &mut self,
+        compare: impl FnOnce(&mut Met) -> Result<(), String>,
+    ) -> Result<(), String> {
+        let before = self.calls;
+        let compared = compare(self);
+        self.left_out += self.calls - before;
+        self.calls = before;
+        compared
     }
 
     /// A call that is left out: not gimli's answer but the page's.
@@ -383,34 +396,29 @@ pub fn walk(port: &impl Port, list: &List, seed: u64, met: &mut Met) -> Result<(
     Ok(())
 }
 
-/// One call on a walk made by hand, at any place of the section or past its end.
-/// gimli's walk is one that is opened there; past the end it has none, and there
-/// is no entry.
-fn by_hand(port: &impl Port, list: &List, seed: u64, met: &mut Met) -> Result<(), String> {
-    let r = &mut Random::new(!(seed ^ COUNT));
+/// A walk made by hand, at any place of the section or past its end.
+pub fn walk_by_hand(r: &mut Random, list: &List) -> State {
     let length = list.section().len() as u64;
     let past = r.one_in(1, 16);
     let place =
         if past { length + 1 + (r.next() >> (1 + r.below(63))) } else { r.below(length + 1) };
-    let walk = State { place, base_address: r.next() >> r.below(64), entries: count_by_hand(r) };
+    State { place, base_address: r.next() >> r.below(64), entries: count_by_hand(r) }
+}
+
+/// One call on a walk made by hand. Past the section's end there is no entry.
+fn by_hand(port: &impl Port, list: &List, seed: u64, met: &mut Met) -> Result<(), String> {
+    let walk = walk_by_hand(&mut Random::new(!(seed ^ COUNT)), list);
     let next = port.next(list, walk);
     let next_raw = port.next_raw(list, walk);
-    if past {
+    if walk.place > list.section().len() as u64 {
         met.met("walk by hand, past the end".into());
         met.same("next past the end", &(Answer::End, walk), &next)?;
         return met.same("next_raw past the end", &(Answer::End, walk), &next_raw);
     }
     met.met("walk by hand".into());
-    let list = &List { offset: place, base_address: walk.base_address, ..*list };
-    let opened = || {
-        let mut oracle =
-            Walk::open(list).map_err(|refusal| format!("open by hand: {refusal:?}"))?;
-        oracle.from = walk.entries;
-        Ok::<_, String>(oracle)
-    };
-    let mut oracle = opened()?;
+    let mut oracle = Walk::by_hand(list, walk);
     met.same("next by hand", &(oracle.next(), oracle.state()), &next)?;
-    let mut oracle = opened()?;
+    let mut oracle = Walk::by_hand(list, walk);
     met.same("next_raw by hand", &(oracle.next_raw(), oracle.state()), &next_raw)
 }
 
@@ -419,14 +427,20 @@ fn by_hand(port: &impl Port, list: &List, seed: u64, met: &mut Met) -> Result<()
 const OTHER_SIZE: u64 = 0x6f74686572;
 const COUNT: u64 = 0x636f756e74;
 
-/// A list with an address size that isn't read: refused with 6 at opening,
-/// and by any call on a walk made by hand.
-fn other_size(port: &impl Added, list: &List, seed: u64, met: &mut Met) -> Result<(), String> {
-    let r = &mut Random::new(seed ^ OTHER_SIZE ^ !0);
+/// An address size that isn't read.
+pub fn size_not_read(r: &mut Random) -> u8 {
     let mut size = r.next() as u8;
     while READ.contains(&size) {
         size = size.wrapping_add(3);
     }
+    size
+}
+
+/// A list with an address size that isn't read: refused with 6 at opening,
+/// and by any call on a walk made by hand.
+fn other_size(port: &impl Added, list: &List, seed: u64, met: &mut Met) -> Result<(), String> {
+    let r = &mut Random::new(seed ^ OTHER_SIZE ^ !0);
+    let size = size_not_read(r);
     let list = &List { address_size: size, ..*list };
     let no = Refusal { number: 6, value: u64::from(size) };
     met.by_the_page("open, other size", &Err(no), &port.open(list))?;
@@ -491,8 +505,8 @@ fn convert_one(
     Ok(after)
 }
 
-/// Converts entries made by hand, on a walk with any count.
-fn convert(port: &impl Port, case: &ConvertCase, seed: u64, met: &mut Met) -> Result<(), String> {
+/// An entry made by hand.
+pub fn entry_of(entry: &RawCase, list: &List) -> Raw {
     use Form::*;
     let forms = [
         BarePair,
@@ -505,16 +519,21 @@ fn convert(port: &impl Port, case: &ConvertCase, seed: u64, met: &mut Met) -> Re
         StartEnd,
         StartLength,
     ];
+    let form = forms[usize::from(entry.form)];
+    let located = list.kind != Kind::Ranges && !matches!(form, Base | BaseIndex);
+    let (offset, length) = entry.expression;
+    let expression = located.then_some(Place { offset, length });
+    Raw { form, first: entry.first, second: entry.second, expression }
+}
+
+/// Converts entries made by hand, on a walk with any count.
+fn convert(port: &impl Port, case: &ConvertCase, seed: u64, met: &mut Met) -> Result<(), String> {
     let list = list_of(&case.list);
     let mut oracle = Walk::open(&list).map_err(|refusal| format!("open: {refusal:?}"))?;
     oracle.from = count_by_hand(&mut Random::new(seed ^ COUNT));
     let mut state = oracle.state();
     for entry in &case.entries {
-        let form = forms[usize::from(entry.form)];
-        let located = list.kind != Kind::Ranges && !matches!(form, Base | BaseIndex);
-        let (offset, length) = entry.expression;
-        let expression = located.then_some(Place { offset, length });
-        let entry = Raw { form, first: entry.first, second: entry.second, expression };
+        let entry = entry_of(entry, &list);
         state = convert_one(port, &list, &mut oracle, state, entry, met)?;
     }
     Ok(())

@@ -1,10 +1,11 @@
 //! Compares the port with the oracle: every short list, headers of address
 //! tables with every size and at places of every remainder, then the cases of as
-//! many seeds as are asked for, then a case built for coverage, sheets and
-//! canonical lists for every twentieth of them. Last comes address size 3: every
-//! short list, and for every fourth of the seeds a case, a list that gimli reads
-//! up to an address, and one that it reads with size 4. A difference is printed,
-//! the last line has their number, and the exit status is 1 where there are any.
+//! many seeds as are asked for, then for each of them a list that is walked with
+//! marks, then a case built for coverage, sheets and canonical lists for every
+//! twentieth of them. Last comes address size 3: every short list, and for every
+//! fourth of the seeds a case, a list that gimli reads up to an address, and one
+//! that it reads with size 4. A difference is printed, the last line has their
+//! number, and the exit status is 1 where there are any.
 //!
 //!   differ [seeds [first seed]] [all] [model]
 //!
@@ -14,6 +15,7 @@
 mod added;
 mod built;
 mod differ;
+mod marks;
 mod measure;
 mod model;
 mod port;
@@ -21,7 +23,7 @@ mod three;
 
 use added::Added;
 use differ::Met;
-use generator::Random;
+use generator::{READ, Random};
 use oracle::oracle_api::{self as gimli, Kind};
 use std::sync::Mutex;
 use std::sync::atomic::{AtomicU64, Ordering};
@@ -118,6 +120,12 @@ fn run(port: &impl Added, seeds: u64, first: u64, all: bool) {
         let case = generator::case(seed, &generator::SIZES);
         differ::compare(port, &case, seed, met)
             .map_err(|error| format!("seed {seed}: {error}\n{case:x?}"))
+    }));
+    total.join(part(seeds, &format!("lists with marks from seed {first}"), |index, met| {
+        let seed = first.wrapping_add(index);
+        let case = generator::list_case(&mut Random::new(seed), &READ);
+        marks::compare(port, &case, seed, met)
+            .map_err(|error| format!("marks, seed {seed}: {error}\n{case:x?}"))
     }));
     let name = format!("built cases from seed {first}");
     total.join(part(seeds.div_ceil(20), &name, |index, met| {

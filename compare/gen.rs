@@ -676,33 +676,39 @@ pub fn list_case(r: &mut Random, sizes: &[u8]) -> ListCase {
     list
 }
 
-/// Raw entries made by hand, also with numbers wider than the address size.
+/// The length of the section that is chosen.
+fn length(list: &ListCase) -> u64 {
+    if list.version <= 4 { list.old.len() as u64 } else { list.new.len() as u64 }
+}
+
+/// Raw entries made by hand.
 pub fn convert_case(r: &mut Random, sizes: &[u8]) -> ConvertCase {
     let mut list = list_case(r, sizes);
-    let length = if list.version <= 4 { list.old.len() } else { list.new.len() } as u64;
-    list.offset = r.below(length + 1);
-    let count = list.table.len() as u64 / u64::from(list.address_size);
-    let entries = (0..1 + r.below(12)).map(|_| {
-        let size = list.address_size;
-        let located = list.kind != Kind::Ranges;
-        let form =
-            r.pick(if located { &[0, 1, 2, 3, 4, 5, 6, 7, 8] } else { &[0, 1, 2, 3, 4, 5, 7, 8] });
-        let (begin, end) = pair(r, size, Wild::Edges);
-        let offset = r.below(length + 1);
-        let expression = (offset, r.below(length - offset + 1));
-        let (first, second) = match form {
-            1 => (base(r, size, Wild::Edges), 0),
-            2 => (index(r, count, size, Wild::Edges), 0),
-            3 => (index(r, count, size, Wild::Edges), index(r, count, size, Wild::Edges)),
-            4 => (index(r, count, size, Wild::Edges), some_number(r, size, Wild::Edges)),
-            6 => (0, 0),
-            8 => (begin, some_number(r, size, Wild::Edges)),
-            _ => (begin, end),
-        };
-        RawCase { form, first, second, expression }
-    });
-    let entries = entries.collect();
+    list.offset = r.below(length(&list) + 1);
+    let entries = (0..1 + r.below(12)).map(|_| raw_case(r, &list)).collect();
     ConvertCase { list, entries }
+}
+
+/// One of them, also with numbers wider than the address size.
+pub fn raw_case(r: &mut Random, list: &ListCase) -> RawCase {
+    let (size, length) = (list.address_size, length(list));
+    let count = list.table.len() as u64 / u64::from(size);
+    let located = list.kind != Kind::Ranges;
+    let form =
+        r.pick(if located { &[0, 1, 2, 3, 4, 5, 6, 7, 8] } else { &[0, 1, 2, 3, 4, 5, 7, 8] });
+    let (begin, end) = pair(r, size, Wild::Edges);
+    let offset = r.below(length + 1);
+    let expression = (offset, r.below(length - offset + 1));
+    let (first, second) = match form {
+        1 => (base(r, size, Wild::Edges), 0),
+        2 => (index(r, count, size, Wild::Edges), 0),
+        3 => (index(r, count, size, Wild::Edges), index(r, count, size, Wild::Edges)),
+        4 => (index(r, count, size, Wild::Edges), some_number(r, size, Wild::Edges)),
+        6 => (0, 0),
+        8 => (begin, some_number(r, size, Wild::Edges)),
+        _ => (begin, end),
+    };
+    RawCase { form, first, second, expression }
 }
 
 /// An address lookup; other sizes are among them.

@@ -1,5 +1,5 @@
-//! Whose answers count: gimli's, and the model's at address size 3, which gimli
-//! refuses.
+//! Whose answers count: gimli's, and the model's at address sizes that gimli
+//! refuses: at 3, and, for walks made by hand, at those that aren't read.
 
 use crate::differ::Port;
 use crate::model::Model;
@@ -16,11 +16,12 @@ fn moved<T>((answer, after): (T, State), state: &mut State) -> T {
     answer
 }
 
-/// A walk of gimli's, or the model's, and the count that the walk was handed in
-/// with.
+/// A walk of gimli's, or the model's, the count that the walk was handed in with,
+/// and how far past the section's end it stands.
 pub struct Walk<'a> {
     by: By<'a>,
     pub from: u64,
+    past: u64,
 }
 
 enum By<'a> {
@@ -35,7 +36,19 @@ impl<'a> Walk<'a> {
         } else {
             Model.open(list).map(|state| By::Model(*list, state))
         };
-        by.map(|by| Walk { by, from: 0 })
+        by.map(|by| Walk { by, from: 0, past: 0 })
+    }
+
+    /// A walk made by hand. gimli's is one that is opened at the place; past the
+    /// end it has none, and the one at the end moves as little.
+    pub fn by_hand(list: &List<'a>, state: State) -> Walk<'a> {
+        if !gimli_reads(list.address_size) {
+            return Walk { by: By::Model(*list, state), from: 0, past: 0 };
+        }
+        let offset = state.place.min(list.section().len() as u64);
+        let list = List { offset, base_address: state.base_address, ..*list };
+        let walk = gimli::Walk::open(&list).expect("a place of the section");
+        Walk { by: By::Gimli(walk), from: state.entries, past: state.place - offset }
     }
 
     pub fn next(&mut self) -> Answer<Yielded> {
@@ -65,7 +78,11 @@ impl<'a> Walk<'a> {
             By::Gimli(walk) => walk.state(),
             By::Model(_, state) => *state,
         };
-        State { entries: self.from.saturating_add(state.entries), ..state }
+        State {
+            place: state.place + self.past,
+            entries: self.from.saturating_add(state.entries),
+            ..state
+        }
     }
 
     /// Every answer of `next` up to the first end, and how many raw entries were

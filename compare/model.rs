@@ -2,7 +2,7 @@
 //! comparison with, and to see whether gimli's answers and the page agree.
 //! Slow and short; it shares nothing with gimli's code.
 
-use crate::added::{self, Added, Kept, MOST, Ranges, Wrote};
+use crate::added::{self, Added, Kept, MOST, Marks, Ranges, Words, Wrote};
 use crate::differ::Port;
 use oracle::oracle_api::{
     Answer, Converted, Form, Kind, List, Lists, Place, Raw, Refusal, State, Table, Yielded,
@@ -467,6 +467,10 @@ fn put_out(bytes: &[u8], output: &mut [u8]) -> Wrote {
     Ok(bytes.len() as u64)
 }
 
+fn mark(number: u64, marks: &mut Marks) -> Got<&mut [u64; 5]> {
+    if number > 7 { no(13, 0) } else { Ok(&mut marks[number as usize]) }
+}
+
 impl Added for Model {
     fn coverage(&self, list: &List, kept: &mut Kept) -> Wrote {
         keep(runs(list)?, kept)
@@ -500,5 +504,21 @@ impl Added for Model {
 
     fn canonical_of(&self, list: &List, output: &mut [u8]) -> Wrote {
         put_out(&added::canonical(&runs(list)?), output)
+    }
+
+    fn set_mark(&self, number: u64, walk: &mut Words, marks: &mut Marks) -> Got<()> {
+        let [place, base_address, entries, split] = *walk;
+        *mark(number, marks)? = [1, place, base_address, entries, split];
+        Ok(())
+    }
+
+    fn return_to(&self, number: u64, walk: &mut Words, marks: &mut Marks) -> Got<()> {
+        match *mark(number, marks)? {
+            [0, ..] => no(13, 0),
+            [_, stored @ ..] => {
+                *walk = stored;
+                Ok(())
+            }
+        }
     }
 }

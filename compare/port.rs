@@ -6,13 +6,14 @@
 #[rustfmt::skip]
 mod ffi;
 
-use crate::added::{Added, Kept, Wrote};
+use crate::added::{Added, Kept, Marks, Words, Wrote};
 use crate::differ::{Found, Port};
 pub use ffi::LIMIT;
 use ffi::*;
 use oracle::oracle_api::{
     Answer, Converted, Form, Kind, List, Lists, Place, Raw, Refusal, State, Table, Yielded,
 };
+use std::hint::black_box;
 
 pub struct Ffi;
 
@@ -397,6 +398,34 @@ fn wrote(answer: ffi::Answer<u64>) -> Wrote {
     result(answer, |count| count)
 }
 
+fn walk_of([at, base_address, entries, split]: Words) -> Walk {
+    Walk { at, base_address, entries, split }
+}
+
+fn words(walk: Walk) -> Words {
+    let Walk { at, base_address, entries, split } = walk;
+    [at, base_address, entries, split]
+}
+
+/// A call on walk and marks. What it leaves is seen in memory, also of what it is
+/// lent to read.
+fn marking(
+    walk: &mut Words,
+    marks: &mut Marks,
+    call: impl FnOnce(&mut Walk, &mut ffi::Marks) -> Done,
+) -> Result<(), Refusal> {
+    let mark = |[is_set, walk @ ..]: [u64; 5]| Mark { is_set, walk: walk_of(walk) };
+    let mut lent = (walk_of(*walk), marks.map(mark));
+    let done = call(&mut lent.0, &mut lent.1);
+    let (lent_walk, lent_marks) = black_box(&mut lent);
+    *walk = words(*lent_walk);
+    *marks = lent_marks.map(|Mark { is_set, walk }| {
+        let [at, base_address, entries, split] = words(walk);
+        [is_set, at, base_address, entries, split]
+    });
+    result(done, |_| ())
+}
+
 impl Added for Ffi {
     fn coverage(&self, list: &List, kept: &mut Kept) -> Wrote {
         let (s, n, t, m) = lent(list);
@@ -455,5 +484,13 @@ impl Added for Ffi {
             let file = file_type(list);
             unsafe { yz_location_canonical(s, n, t, m, base, encoding, file, at, low, o, len) }
         })
+    }
+
+    fn set_mark(&self, number: u64, walk: &mut Words, marks: &mut Marks) -> Result<(), Refusal> {
+        marking(walk, marks, |walk, marks| yz_mark_set(number, walk, marks))
+    }
+
+    fn return_to(&self, number: u64, walk: &mut Words, marks: &mut Marks) -> Result<(), Refusal> {
+        marking(walk, marks, |walk, marks| yz_mark_return(number, marks, walk))
     }
 }

@@ -6,7 +6,7 @@ use core::fmt;
 /// What a call gives: its answer or a refusal.
 pub type Result<T> = core::result::Result<T, Error>;
 
-/// A refusal.
+/// A refusal. No call gives those of the numbers 14 to 21 yet.
 #[derive(Debug, Clone, Copy, PartialEq, Eq, Hash)]
 pub enum Error {
     /// Bytes are missing.
@@ -33,6 +33,24 @@ pub enum Error {
     NoSpace,
     /// The bytes or the ranges make no lawful sheet.
     BadSheet,
+    /// A mark's number is above 7, or the mark returned to is not set.
+    NoSuchMark,
+    /// A span's begin is above its end.
+    BadSpan,
+    /// A LEB128 number has a shorter form.
+    PaddedNumber,
+    /// A base address or a begin is at or above the tombstone bound.
+    Tombstone,
+    /// A range's begin is above its end.
+    BackwardRange,
+    /// A range is too large for the address size of an older list.
+    AddressTooLarge,
+    /// The bytes are no table of kind numbers.
+    BadKindTable,
+    /// There are more than 64 addresses.
+    TooManyAddresses,
+    /// An address is above the one after it.
+    DescendingAddresses,
     /// A list and its address table have different byte orders. The wrapper says so, before it asks
     /// the library, which reads both in one order. A table without bytes goes with either.
     MixedByteOrders,
@@ -57,11 +75,20 @@ impl Error {
             10 => Error::TooManyRanges,
             11 => Error::NoSpace,
             12 => Error::BadSheet,
+            13 => Error::NoSuchMark,
+            14 => Error::BadSpan,
+            15 => Error::PaddedNumber,
+            16 => Error::Tombstone,
+            17 => Error::BackwardRange,
+            18 => Error::AddressTooLarge,
+            19 => Error::BadKindTable,
+            20 => Error::TooManyAddresses,
+            21 => Error::DescendingAddresses,
             _ => Error::Unknown(number, value),
         }
     }
 
-    /// The refusal's number, 1 to 12; 0 for [`Error::MixedByteOrders`].
+    /// The refusal's number, 1 to 21; 0 for [`Error::MixedByteOrders`].
     pub fn number(self) -> u64 {
         match self {
             Error::UnexpectedEof => 1,
@@ -76,6 +103,15 @@ impl Error {
             Error::TooManyRanges => 10,
             Error::NoSpace => 11,
             Error::BadSheet => 12,
+            Error::NoSuchMark => 13,
+            Error::BadSpan => 14,
+            Error::PaddedNumber => 15,
+            Error::Tombstone => 16,
+            Error::BackwardRange => 17,
+            Error::AddressTooLarge => 18,
+            Error::BadKindTable => 19,
+            Error::TooManyAddresses => 20,
+            Error::DescendingAddresses => 21,
             Error::MixedByteOrders => 0,
             Error::Unknown(number, _) => number,
         }
@@ -110,6 +146,15 @@ impl Error {
             Error::TooManyRanges => "TooManyRanges",
             Error::NoSpace => "NoSpace",
             Error::BadSheet => "BadSheet",
+            Error::NoSuchMark => "NoSuchMark",
+            Error::BadSpan => "BadSpan",
+            Error::PaddedNumber => "PaddedNumber",
+            Error::Tombstone => "Tombstone",
+            Error::BackwardRange => "BackwardRange",
+            Error::AddressTooLarge => "AddressTooLarge",
+            Error::BadKindTable => "BadKindTable",
+            Error::TooManyAddresses => "TooManyAddresses",
+            Error::DescendingAddresses => "DescendingAddresses",
             Error::MixedByteOrders => "MixedByteOrders",
             Error::Unknown(..) => "Unknown",
         }

@@ -4,8 +4,12 @@
 /// How many ranges a coverage holds at most.
 pub const LIMIT: usize = 3000;
 
+/// How many marks a walk has; they are numbered from 0 on.
+pub const MARKS: usize = 8;
+
 pub type Ptr = *const u8;
 pub type Bounds = [u64; LIMIT];
+pub type Marks = [Mark; MARKS];
 
 /// What a call comes to.
 pub const DONE: u32 = 0;
@@ -59,6 +63,7 @@ structs! {
     Encoding { version: u16, address_size: u8, dwarf64: bool, big_endian: u32, }
     Part { offset: u64, length: u64, }
     Walk { at: u64, base_address: u64, entries: u64, split: u64, }
+    Mark { is_set: u64, walk: Walk, }
     RangeEntry { kind: u64, first: u64, second: u64, }
     LocationEntry { kind: u64, first: u64, second: u64, expression: Part, }
 
@@ -96,6 +101,8 @@ pinned! {
     Encoding: 8, version 0, address_size 2, dwarf64 3, big_endian 4;
     Part: 16, offset 0, length 8;
     Walk: 32, at 0, base_address 8, entries 16, split 24;
+    Mark: 40, is_set 0, walk 8;
+    Marks: 320;
     RangeEntry: 24, kind 0, first 8, second 16;
     LocationEntry: 40, kind 0, first 8, second 16, expression 24;
     Done: 16, result 0, refusal 4, refusal_value 8, item 16;
@@ -183,6 +190,9 @@ unsafe extern "C" {
         walk: &mut Walk,
     ) -> Answer<Location>;
     pub fn yz_expression(s: Ptr, n: usize, expression: Part) -> Part;
+
+    pub safe fn yz_mark_set(number: u64, walk: &Walk, marks: &mut Marks) -> Done;
+    pub safe fn yz_mark_return(number: u64, marks: &Marks, walk: &mut Walk) -> Done;
 
     pub fn yz_range_lookup(
         s: Ptr, n: usize, t: Ptr, m: usize, table_base: u64, encoding: Encoding, offset: u64,

@@ -234,7 +234,7 @@ impl<'a> LocationLists<'a> {
 #[derive(Debug, Clone)]
 pub struct RawLocListIter<'a> {
     list: Written<'a>,
-    walk: ffi::Walk,
+    pub(super) walk: ffi::Walk,
 }
 
 impl<'a> RawLocListIter<'a> {
@@ -287,7 +287,7 @@ impl<'a> RawLocListIter<'a> {
 /// A walk over the locations of a location list.
 #[derive(Debug, Clone)]
 pub struct LocListIter<'a> {
-    raw: RawLocListIter<'a>,
+    pub(super) raw: RawLocListIter<'a>,
     table: Table<'a>,
 }
 

@@ -208,7 +208,7 @@ impl<'a> RangeLists<'a> {
 #[derive(Debug, Clone)]
 pub struct RawRngListIter<'a> {
     list: Written<'a>,
-    walk: ffi::Walk,
+    pub(super) walk: ffi::Walk,
 }
 
 impl<'a> RawRngListIter<'a> {
@@ -251,7 +251,7 @@ impl<'a> RawRngListIter<'a> {
 /// A walk over the ranges of a range list.
 #[derive(Debug, Clone)]
 pub struct RngListIter<'a> {
-    raw: RawRngListIter<'a>,
+    pub(super) raw: RawRngListIter<'a>,
     table: Table<'a>,
 }
 

@@ -16,6 +16,15 @@ use Rattle.bytes.specs.declared.error.Error.the-variants.{
   TooManyRanges,
   NoSpace,
   BadSheet,
+  NoSuchMark,
+  BadSpan,
+  PaddedNumber,
+  Tombstone,
+  BackwardRange,
+  AddressTooLarge,
+  BadKindTable,
+  TooManyAddresses,
+  DescendingAddresses,
 }
 use Rattle.bytes.specs.declared.Num.{Num}
 use Rattle.bytes.specs.declared.Num.the-variants as num
@@ -41,6 +50,15 @@ number UnsupportedOffset = 9
 number TooManyRanges = 10
 number NoSpace = 11
 number BadSheet = 12
+number NoSuchMark = 13
+number BadSpan = 14
+number PaddedNumber = 15
+number Tombstone = 16
+number BackwardRange = 17
+number AddressTooLarge = 18
+number BadKindTable = 19
+number TooManyAddresses = 20
+number DescendingAddresses = 21
 
 abbrev pub values : Error → List ℕ
 values UnexpectedEof = []
@@ -55,6 +73,15 @@ values UnsupportedOffset = []
 values TooManyRanges = []
 values NoSpace = []
 values BadSheet = []
+values NoSuchMark = []
+values BadSpan = []
+values PaddedNumber = []
+values Tombstone = []
+values BackwardRange = []
+values AddressTooLarge = []
+values BadKindTable = []
+values TooManyAddresses = []
+values DescendingAddresses = []
 
 abbrev pub refusal : {A : Type 0} → Error → Result A
 refusal e = refused (number e) (values e)

@@ -16,6 +16,15 @@ pub enum Error {
     TooManyRanges,
     NoSpace,
     BadSheet,
+    NoSuchMark,
+    BadSpan,
+    PaddedNumber,
+    Tombstone,
+    BackwardRange,
+    AddressTooLarge,
+    BadKindTable,
+    TooManyAddresses,
+    DescendingAddresses,
 }
 
 impl Error {
@@ -36,6 +45,15 @@ impl Error {
             Error::TooManyRanges => 10,
             Error::NoSpace => 11,
             Error::BadSheet => 12,
+            Error::NoSuchMark => 13,
+            Error::BadSpan => 14,
+            Error::PaddedNumber => 15,
+            Error::Tombstone => 16,
+            Error::BackwardRange => 17,
+            Error::AddressTooLarge => 18,
+            Error::BadKindTable => 19,
+            Error::TooManyAddresses => 20,
+            Error::DescendingAddresses => 21,
         }
     }
 
@@ -56,6 +74,15 @@ impl Error {
             Error::TooManyRanges => 0,
             Error::NoSpace => 0,
             Error::BadSheet => 0,
+            Error::NoSuchMark => 0,
+            Error::BadSpan => 0,
+            Error::PaddedNumber => 0,
+            Error::Tombstone => 0,
+            Error::BackwardRange => 0,
+            Error::AddressTooLarge => 0,
+            Error::BadKindTable => 0,
+            Error::TooManyAddresses => 0,
+            Error::DescendingAddresses => 0,
         }
     }
 }

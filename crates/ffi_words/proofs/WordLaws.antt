@@ -19,10 +19,19 @@ use Rattle.bytes.specs.declared.error.Error.the-variants.{
   TooManyRanges,
   NoSpace,
   BadSheet,
+  NoSuchMark,
+  BadSpan,
+  PaddedNumber,
+  Tombstone,
+  BackwardRange,
+  AddressTooLarge,
+  BadKindTable,
+  TooManyAddresses,
+  DescendingAddresses,
 }
 use Rattle.ffi_words.specs.Common.{fileOf}
 
-pub number-small : (e : Error) → number e < 13
+pub number-small : (e : Error) → number e < 22
 number-small UnexpectedEof = omega arith
 number-small BadUnsignedLeb128 = omega arith
 number-small (UnknownRangeListsEntry code) = omega arith
@@ -35,6 +44,15 @@ number-small UnsupportedOffset = omega arith
 number-small TooManyRanges = omega arith
 number-small NoSpace = omega arith
 number-small BadSheet = omega arith
+number-small NoSuchMark = omega arith
+number-small BadSpan = omega arith
+number-small PaddedNumber = omega arith
+number-small Tombstone = omega arith
+number-small BackwardRange = omega arith
+number-small AddressTooLarge = omega arith
+number-small BadKindTable = omega arith
+number-small TooManyAddresses = omega arith
+number-small DescendingAddresses = omega arith
 
 pub file-split : (b : Bool) → isSplit (fileOf b) ≡ b
 file-split true = refl

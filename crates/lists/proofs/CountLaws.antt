@@ -289,7 +289,7 @@ uncounted-as-before = record { walk = trace-uncounted; call = next-uncounted; ra
 
 -- for the two lists
 module _ (encoding : Encoding) (endian : RunTimeEndian) (s : List ℕ) (offset : ℕ) where
-  listed-counted : (l split : Bool) → Counted encoding s (listed l split encoding endian s) offset
+  pub listed-counted : (l split : Bool) → Counted encoding s (listed l split encoding endian s) offset
   listed-counted l split = counted-of encoding s (listed l split encoding endian s) offset (listed-past l split encoding endian s)
 
   pub ranges-counted : Counted encoding s (ranges encoding endian s) offset
