@@ -7,7 +7,7 @@ use mathlib.Core.Logic.{_⊎_, inl, inr, ⊎-elim, _≢_}
 use Prim.Native.Nat.{ℕ, zero, suc, _≤_, _<_}
 use native.Mathlib.Omega.{arith}
 use lib.Dec.{ltb, eqb}
-use lib.ListN.{length, getD, set, replicate}
+use lib.ListN.{length, getD, set, replicate, length-set, length-replicate}
 use lib.Seq.{getD-set-same, getD-set-other}
 use borrow.Author.Tests.{lt-ltb, le-ltb}
 use Rattle.bytes.specs.Read.{Result, gives, refused, pick}
@@ -80,6 +80,19 @@ module _ {W M : Type 0} (k : Keeping W M) (r : Reading W) where
 
   set-walk : (m : Marked W M) (i : ℕ) → after k r (sets i) m .walk ≡ m .walk
   set-walk m i = one-walk m (ltb i 8) (set (m .marks) i (k .setTo (m .walk)))
+
+  set-as-many : (m : Marked W M) (i : ℕ) → length (after k r (sets i) m .marks) ≡ length (m .marks)
+  set-as-many m i = by (ltb i 8)
+    where
+      by : (t : Bool) → length (answered m (pick t (gives (marked (m .walk) (set (m .marks) i (k .setTo (m .walk))))) no) .then .marks) ≡ length (m .marks)
+      by true = length-set (m .marks) i (k .setTo (m .walk))
+      by false = refl
+
+  as-many : (m : Marked W M) (ss : List (Step (r .Call))) → length (run k r ss m .marks) ≡ length (m .marks)
+  as-many m [] = refl
+  as-many m (reads c ∷ ss) = as-many (after k r (reads c) m) ss
+  as-many m (sets i ∷ ss) = as-many (after k r (sets i) m) ss ∙ set-as-many m i
+  as-many m (returns i ∷ ss) = as-many (after k r (returns i) m) ss ∙ ap length (return-marks m i)
 
   -- a mark stays until it is set again
   stays : (i : ℕ) (ss : List (Step (r .Call))) → NotSet i ss → (m : Marked W M) → stored k i (run k r ss m) ≡ stored k i m
@@ -173,11 +186,13 @@ module _ {W M : Type 0} (k : Keeping W M) (r : Reading W) where
   pub returns-for : Returns k r
   returns-for =
       record {
+        eight = λ w. length-replicate 8 (k .unset);
+        none-set = none-set;
+        as-many = as-many;
         done = λ m e i h b f. ap (λ (x : Result (Marked W M)). marking (answered (run k r b (after k r (sets i) m)) x .result)) (back m e i h b f);
         again = λ m e i h b n f g. by-walk n g (returned k r i b m) (after k r (sets i) m) (back-walk m e i h b f) .0;
         walk-again = λ m e i h b n f g. by-walk n g (returned k r i b m) (after k r (sets i) m) (back-walk m e i h b f) .1;
         never-set = λ m i u ss f. not-set (run k r ss m) i (ap (k .isSet) (stays i ss f m) ∙ u);
-        none-set = none-set;
         above = above;
         refused-set = λ m i n vs e. refused-so m (ltb i 8) (marked (m .walk) (set (m .marks) i (k .setTo (m .walk)))) n vs e;
         refused-return = refused-return;

@@ -25,6 +25,10 @@ abbrev pub Holds : {W M : Type 0} → Keeping W M → (W → Type 0) → Marked 
 Holds k P m = P (m .walk) × ((i : ℕ) → k .isSet (stored k i m) ≡ true → P (k .walkOf (stored k i m)))
 
 pub record Returns {W M : Type 0} (k : Keeping W M) (r : Reading W) : Type 1 where
+  -- a walk that has just got its marks has eight, and none of them is set; nothing that is done changes how many they are
+  pub eight : (w : W) → length (fresh k w .marks) ≡ 8
+  pub none-set : (w : W) (i : ℕ) → k .isSet (stored k i (fresh k w)) ≡ false
+  pub as-many : (m : Marked W M) (steps : List (Step (r .Call))) → length (run k r steps m .marks) ≡ length (m .marks)
   -- whatever is done after a setting, calls, returns and settings of other marks, a return to the mark is done. Calls that follow it, with
   -- settings among them but no return, tell what they tell right after the setting, and leave the walk that they leave then
   pub done : (m : Marked W M) → length (m .marks) ≡ 8 → (i : ℕ) → i < 8 → (between : List (Step (r .Call))) → NotSet i between
@@ -33,10 +37,9 @@ pub record Returns {W M : Type 0} (k : Keeping W M) (r : Reading W) : Type 1 whe
       → answers k r next (returned k r i between m) ≡ answers k r next (after k r (sets i) m)
   pub walk-again : (m : Marked W M) → length (m .marks) ≡ 8 → (i : ℕ) → i < 8 → (between next : List (Step (r .Call))) → NotSet i between → NoReturn next
       → run k r next (returned k r i between m) .walk ≡ run k r next (after k r (sets i) m) .walk
-  -- a mark that is not set, and isn't set since, has no return; of a walk that has just got its marks none is set
+  -- a mark that is not set, and isn't set since, has no return
   pub never-set : (m : Marked W M) (i : ℕ) → k .isSet (stored k i m) ≡ false → (steps : List (Step (r .Call))) → NotSet i steps
       → tells k r (returns i) (run k r steps m) ≡ marking (refused 13 [])
-  pub none-set : (w : W) (i : ℕ) → k .isSet (stored k i (fresh k w)) ≡ false
   -- a number above 7 is refused
   pub above : (m : Marked W M) (i : ℕ) → 7 < i → (tells k r (sets i) m ≡ marking (refused 13 [])) × (tells k r (returns i) m ≡ marking (refused 13 []))
   -- a refused call changes nothing, a setting neither the walk nor another mark, a return no mark
