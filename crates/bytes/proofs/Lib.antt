@@ -10,3 +10,4 @@ pub mod Inside
 pub mod WrittenLaws
 pub mod PutLaws
 pub mod SizeLaws
+pub mod PaddedLaws

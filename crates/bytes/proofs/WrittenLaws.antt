@@ -189,3 +189,37 @@ unsigned-bytes (suc k) x i h =
     (λ s. rw (unsigned-short k x s) (one-bytes x i (omega arith)))
     (λ s. rw (unsigned-long k x s) (append-bytes ((x % 128 + 128) ∷ []) (unsignedIn k (x / 128)) (λ j. one-bytes (x % 128 + 128) j (omega arith)) (λ j. unsigned-bytes k (x / 128) j (omega arith)) i))
     (lt-or-le x 128)
+
+-- a byte and those after it, of a number that k bytes and one more hold
+pub unsigned-more : (k x : ℕ) → 128 ≤ x → x < 2 * 128 ^ k
+    → (j : ℕ) × (unsignedIn k x ≡ (x % 128 + 128) ∷ unsignedIn j (x / 128)) × (x / 128 < 2 * 128 ^ j)
+unsigned-more zero x h s = absurd (omega arith)
+unsigned-more (suc k) x h s = let l : x < 2 * (128 ^ k * 128) = rw pow-suc at s in (k, unsigned-long k x h, omega arith)
+
+-- so a number told has at most ten bytes
+pub few-bytes : (x : ℕ) {r : ℕ} → r ≡ length (unsignedBytes x) → r ≤ 10
+few-bytes x e = omega (arith, unsigned-length 9 x .1)
+
+-- a form counted byte by byte: of x are left the bytes of rest, of which n counts the first
+pub record Counted (x n rest : ℕ) : Type 0 where
+  pub k : ℕ
+  pub small : rest < 2 * 128 ^ k
+  pub same : n + length (unsignedIn k rest) ≡ 1 + length (unsignedBytes x)
+  pub few : n ≤ 10
+
+pub counted-start : {x : ℕ} → x < 2 ^ 64 → Counted x 1 x
+counted-start {x} h = record { k = 9; small = h; same = refl; few = omega arith }
+
+module _ {x n rest : ℕ} (t : Counted x n rest) where
+  pub counted-step : 128 ≤ rest → Counted x (n + 1) (rest / 128)
+  counted-step h =
+      let m = unsigned-more (t .k) rest h (t .small) in
+      let u = unsigned-length (m .0) (rest / 128) in
+      let w = unsigned-length 9 x in
+      let q : n + suc (length (unsignedIn (m .0) (rest / 128))) ≡ 1 + length (unsignedBytes x) = rw (m .1) at (t .same) in
+      record { k = m .0; small = m .2; same = omega arith; few = omega arith }
+
+  pub counted-end : rest < 128 → n ≡ length (unsignedBytes x)
+  counted-end h =
+      let q : n + 1 ≡ 1 + length (unsignedBytes x) = rw (unsigned-last (t .k) rest h) at (t .same) in
+      omega arith

@@ -8,3 +8,4 @@ pub mod Reader
 pub mod Address
 pub mod Written
 pub mod Sizes
+pub mod Padded

@@ -6,6 +6,8 @@ ghost use Prim.Native.Nat.{_+_, _≤_, _<_};
 ghost use lib.ListN.{length, getD};
 ghost use Rattle.bytes.specs.Error.{told};
 ghost use Rattle.bytes.specs.Leb128.{unsigned as unsignedAt, toldSingle, single as singleAt};
+ghost use Rattle.bytes.specs.Padded.{toldNumber, numberAt};
+ghost use Rattle.bytes.specs.Written.{unsignedBytes};
 
 // The number from its second byte on, given the first, which another follows.
 fn unsigned_more(s: &[u8], at: usize) -> Num
@@ -75,4 +77,63 @@ pub fn single(s: &[u8], at: usize) -> OneByte
         }
     }
     OneByte::None
+}
+
+// How many bytes the shortest unsigned LEB128 form of x has.
+pub fn unsigned_size(x: u64) -> usize
+    ensures { λ r. ⌜ r ≡ length (unsignedBytes x) ⌝ }
+{
+    let mut n: usize = 1;
+    let mut rest = x;
+    while 128 <= rest {
+        n += 1;
+        rest /= 128;
+    }
+    n
+}
+
+// A number, how many bytes it took, and whether a shorter form of it exists.
+pub struct Number {
+    pub value: u64,
+    pub len: usize,
+    pub padded: bool,
+}
+
+// A number that was read, with the place after it.
+pub enum NumberAnswer {
+    Got(Number, usize),
+    Refused(Error),
+}
+
+// The number at a place, as `unsigned` reads it, with its length. The last byte of a shortest form has bits of the number, unless
+// it is the only byte: so a padded one ends in 00.
+pub fn with_length(s: &[u8], at: usize) -> NumberAnswer
+    ensures { λ r. ⌜ toldNumber r ≡ numberAt (now (s .entry)) at ⌝ }
+{
+    match unsigned(s, at) {
+        Num::Got(value, c) => {
+            let len = c - at;
+            if 1 < len {
+                if s[c - 1] == 0 {
+                    return NumberAnswer::Got(
+                        Number {
+                            value,
+                            len,
+                            padded: true,
+                        },
+                        c,
+                    );
+                }
+            }
+            NumberAnswer::Got(
+                Number {
+                    value,
+                    len,
+                    padded: false,
+                },
+                c,
+            )
+        }
+        Num::Refused(e) => NumberAnswer::Refused(e),
+    }
 }

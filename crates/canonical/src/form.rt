@@ -1,7 +1,7 @@
 // Whether bytes are a canonical list: read once from front to end, and nothing is kept but the end of the range before.
-use super::unsigned_size;
 use bytes::Num;
 use bytes::endianity::RunTimeEndian;
+use bytes::leb128::unsigned_size;
 use coverage::LIMIT;
 use entries::constants;
 ghost use mathlib.Core.Bool.{true};

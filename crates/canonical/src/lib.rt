@@ -3,6 +3,7 @@ pub mod form;
 pub mod of_list;
 
 use bytes::error::Error;
+use bytes::leb128::unsigned_size;
 use bytes::put::put_u64;
 use coverage::Coverage;
 use coverage::LIMIT;
@@ -20,19 +21,6 @@ ghost use Rattle.coverage.specs.Told.{toldWrote};
 ghost use Rattle.coverage.specs.Kept.{counted, firsts};
 ghost use Rattle.canonical.specs.Arrays.{Arrays};
 ghost use Rattle.canonical.specs.Put.{Enough, Put};
-
-// How many bytes the shortest unsigned LEB128 form of x has.
-fn unsigned_size(x: u64) -> usize
-    ensures { λ r. ⌜ r ≡ length (unsignedBytes x) ⌝ }
-{
-    let mut n: usize = 1;
-    let mut rest = x;
-    while 128 <= rest {
-        n += 1;
-        rest /= 128;
-    }
-    n
-}
 
 // The shortest unsigned LEB128 form of x from a place on, and the place after it.
 fn put_unsigned(out: &mut [u8], at: usize, x: u64) -> usize

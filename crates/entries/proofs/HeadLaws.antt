@@ -189,10 +189,6 @@ module _ (encoding : Encoding) (endian : RunTimeEndian) (start : ℕ) (s : List 
   pair-step false k f = rw (f, e)
   pair-step true k f = let o : _≡_ {A = ℕ} 0 1 = cc in absurd (omega arith)
 
--- the entry that was built
-pub entry-built : {E : Type 0} {x y : E} {n : ℕ} {t : Result (Step E)} → x ≡ y → gives (found y n) ≡ t → gives (found x n) ≡ t
-entry-built {E} {x} {y} {n} e f = ap (λ (z : E). gives (found z n)) e ∙ f
-
 -- an answer for a location is the code's own
 pub step-same : (t : Result (Step RawLocListEntry)) → stepIn true t ≡ t
 step-same (gives (found e c)) = refl

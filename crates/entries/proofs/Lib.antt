@@ -6,3 +6,5 @@ pub mod StepLaws
 pub mod MovedLaws
 pub mod EntryValues
 pub mod HeadLaws
+pub mod PaddedLaws
+pub mod PaddedTook

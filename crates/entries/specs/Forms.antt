@@ -1,6 +1,7 @@
 -- The forms of operands, and reading them: one definition for both lists, all versions, address sizes and byte orders.
 -- A list is read in a part of its section; start is where the part starts.
 use Prim.Native.Nat.{ℕ, _+_}
+use mathlib.Core.Bool.{Bool, true, false}
 use mathlib.Core.List.{List, [], _∷_}
 use lib.Dec.{leb}
 use Rattle.bytes.specs.Read.{gives, got, Read, readThen, pick}
@@ -50,6 +51,14 @@ operand encoding endian start s number at = unsigned s at
 operand encoding endian start s rangeLength at = versionedLength 4 encoding endian s at
 operand encoding endian start s address at = addressAt endian (encoding .«address_size») s at
 operand encoding endian start s expression at = readThen (versionedLength 2 encoding endian s at) (block start s)
+
+-- whether an operand is a LEB128 number, or an expression behind one: lengths are from version 5 on
+abbrev pub isUnsigned : Encoding → Form → Bool
+isUnsigned encoding index = true
+isUnsigned encoding number = true
+isUnsigned encoding rangeLength = leb 5 (encoding .version)
+isUnsigned encoding address = false
+isUnsigned encoding expression = leb 5 (encoding .version)
 
 -- a function of the operands' values
 abbrev pub Takes : List Form → Type 0 → Type 0

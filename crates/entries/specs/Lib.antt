@@ -4,3 +4,5 @@ pub mod Told
 pub mod Listed
 pub mod Filled
 pub mod Heads
+pub mod Shortest
+pub mod Padded

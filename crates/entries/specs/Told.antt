@@ -6,10 +6,7 @@ use Rattle.entries.specs.Forms.{Raw, stop, entry}
 use Rattle.entries.specs.declared.Expression.{Expression}
 use Rattle.entries.specs.declared.operands.ExpressionAnswer.{ExpressionAnswer}
 use Rattle.entries.specs.declared.operands.ExpressionAnswer.the-variants as parsed
-use Rattle.entries.specs.declared.RawRngListEntry.{RawRngListEntry}
 use Rattle.entries.specs.declared.RawLocListEntry.{RawLocListEntry}
-use Rattle.entries.specs.declared.RangeStep.{RangeStep}
-use Rattle.entries.specs.declared.RangeStep.the-variants as rng
 use Rattle.entries.specs.declared.LocationStep.{LocationStep}
 use Rattle.entries.specs.declared.LocationStep.the-variants as loc
 
@@ -23,11 +20,6 @@ abbrev pub stepOf : {E : Type 0} → Read (Raw E) → Result (Step E)
 stepOf (gives (got stop c)) = gives ended
 stepOf (gives (got (entry e) c)) = gives (found e c)
 stepOf (refused n vs) = refused n vs
-
-abbrev pub toldRange : RangeStep → Result (Step RawRngListEntry)
-toldRange (rng.Entry e c) = gives (found e c)
-toldRange rng.End = gives ended
-toldRange (rng.Refused e) = refusal e
 
 abbrev pub toldLocation : LocationStep → Result (Step RawLocListEntry)
 toldLocation (loc.Entry e c) = gives (found e c)

@@ -2,6 +2,7 @@
 pub mod constants;
 pub mod loclists;
 pub mod operands;
+pub mod padded;
 pub mod raw;
 pub mod rnglists;
 
@@ -37,13 +38,20 @@ pub enum RawLocListEntry {
     StartLength(u64, u64, Expression),
 }
 
-// One call of a raw reader: an entry with the place after it, the end, or a refusal.
-pub enum RangeStep {
-    Entry(RawRngListEntry, usize),
+// One call of a raw reader: an entry, whether some LEB128 number of it is padded, and the place after it; the end; or a refusal.
+pub enum RawRangeStep {
+    Entry(RawRngListEntry, bool, usize),
     End,
     Refused(Error),
 }
 
+pub enum RawLocationStep {
+    Entry(RawLocListEntry, bool, usize),
+    End,
+    Refused(Error),
+}
+
+// The same for both lists, without that.
 pub enum LocationStep {
     Entry(RawLocListEntry, usize),
     End,

@@ -1,5 +1,5 @@
 // Location list entries (DWARF 5, 2.6.2 and 7.7.3; DWARF 4, 2.6.2; GNU split lists up to version 4).
-use super::LocationStep;
+use super::RawLocationStep;
 use super::constants;
 use super::raw::Head;
 use super::raw::passed;
@@ -13,8 +13,9 @@ ghost use Prim.Native.Nat.{ℕ};
 ghost use Rattle.bytes.specs.Common.{isSplit};
 ghost use Rattle.bytes.specs.declared.common.Encoding.{Encoding};
 ghost use Rattle.bytes.specs.declared.endianity.RunTimeEndian.{RunTimeEndian};
-ghost use Rattle.entries.specs.Told.{stepOf, toldLocation};
+ghost use Rattle.entries.specs.Told.{stepOf};
 ghost use Rattle.entries.specs.Kinds.{codedLocation, rawLocation};
+ghost use Rattle.entries.specs.Padded.{noted, toldLocationStep, locationPadded};
 ghost use Rattle.entries.specs.Heads.{headed, numberPair, startxLength};
 
 // The head of kinds 2 and 4: two LEB128 numbers.
@@ -120,18 +121,18 @@ pub(crate) fn coded_head(part: &[u8], encoding: Encoding, endian: RunTimeEndian)
     }
 }
 
-// The raw entry at a place of a location list; at or past the section's end, the end. Refused with 4 and the code, then
-// operand by operand: an address with 6 and the size, then 1; a LEB128 number with 1 or 2; an expression with its length's
-// refusal, then 1.
+// The raw entry at a place of a location list, and whether some LEB128 number of it is padded; at or past the section's end, the
+// end. Refused with 4 and the code, then operand by operand: an address with 6 and the size, then 1; a LEB128 number with 1 or 2;
+// an expression with its length's refusal, then 1.
 pub fn raw_location_entry(
     section: &[u8],
     at: usize,
     encoding: Encoding,
     endian: RunTimeEndian,
     file_type: DwarfFileType,
-) -> LocationStep
-    ensures { λ r. ⌜ toldLocation r ≡ stepOf (rawLocation (isSplit «file_type») encoding endian (now (section .entry)) at) ⌝ }
+) -> RawLocationStep
+    ensures { λ r. ⌜ toldLocationStep r ≡ noted (locationPadded (isSplit «file_type») encoding endian (now (section .entry)) at) (stepOf (rawLocation (isSplit «file_type») encoding endian (now (section .entry)) at)) ⌝ }
 {
     let split = file_type.is_split();
-    super::raw::raw_entry(section, at, encoding, endian, true, split)
+    super::padded::noted_entry(section, at, encoding, endian, true, split)
 }

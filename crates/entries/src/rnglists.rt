@@ -1,8 +1,9 @@
 // Range list entries (DWARF 5, 2.17.3 and 7.25; DWARF 4, 2.17.3).
 use super::Expression;
 use super::LocationStep;
-use super::RangeStep;
 use super::RawLocListEntry;
+use super::RawLocationStep;
+use super::RawRangeStep;
 use super::constants;
 use bytes::Num;
 use bytes::common::DebugAddrIndex;
@@ -15,10 +16,11 @@ ghost use Prim.Native.Nat.{_+_, _<_, _^_};
 ghost use lib.ListN.{length};
 ghost use Rattle.bytes.specs.Read.{gives, got};
 ghost use Rattle.bytes.specs.Error.{told};
-ghost use Rattle.entries.specs.Told.{stepOf, toldRange, toldLocation, passedOn};
+ghost use Rattle.entries.specs.Told.{stepOf, toldLocation, passedOn};
 ghost use Rattle.entries.specs.Listed.{stepIn};
 ghost use Rattle.entries.specs.Forms.{stop};
 ghost use Rattle.entries.specs.Kinds.{codedRange, moved, rawRange};
+ghost use Rattle.entries.specs.Padded.{noted, toldRangeStep, rangePadded};
 
 // A refusal of an operand passed on.
 fn passed(r: Num) -> LocationStep
@@ -147,19 +149,23 @@ pub(crate) fn coded_range(
     }
 }
 
-// The raw entry at a place of a range list; at or past the section's end, the end. Refused with 3 and the code, then operand
-// by operand: an address with 6 and the size, then 1; a LEB128 number with 1 or 2.
+// The raw entry at a place of a range list, and whether some LEB128 number of it is padded; at or past the section's end, the
+// end. Refused with 3 and the code, then operand by operand: an address with 6 and the size, then 1; a LEB128 number with 1 or 2.
 pub fn raw_range_entry(
     section: &[u8],
     at: usize,
     encoding: Encoding,
     endian: RunTimeEndian,
-) -> RangeStep
-    ensures { λ r. ⌜ toldRange r ≡ stepOf (rawRange encoding endian (now (section .entry)) at) ⌝ }
+) -> RawRangeStep
+    ensures { λ r. ⌜ toldRangeStep r ≡ noted (rangePadded encoding endian (now (section .entry)) at) (stepOf (rawRange encoding endian (now (section .entry)) at)) ⌝ }
 {
-    match super::raw::raw_entry(section, at, encoding, endian, false, false) {
-        LocationStep::Entry(e, c) => RangeStep::Entry(super::raw::bounds_of(e), c),
-        LocationStep::End => RangeStep::End,
-        LocationStep::Refused(e) => RangeStep::Refused(e),
+    match super::padded::noted_entry(section, at, encoding, endian, false, false) {
+        RawLocationStep::Entry(e, padded, c) => RawRangeStep::Entry(
+            super::raw::bounds_of(e),
+            padded,
+            c,
+        ),
+        RawLocationStep::End => RawRangeStep::End,
+        RawLocationStep::Refused(e) => RawRangeStep::Refused(e),
     }
 }

@@ -1,5 +1,6 @@
 // Numbers read at a place of a section.
 use ffi_words::common::YzEncoding;
+use ffi_words::reads::YzLeb128;
 use ffi_words::reads::YzNumber;
 use ffi_words::reads::YzPlace;
 use ffi_words::reads::YzRead;
@@ -7,18 +8,18 @@ use ffi_words::reads::YzSplitPart;
 use ffi_words::reads::YzUnitLength;
 ghost use mathlib.Core.Path.{_≡_};
 ghost use Rattle.bytes.specs.Address.{addSized, ones, minTombstone};
-ghost use Rattle.bytes.specs.Leb128.{unsigned as unsignedAt};
+ghost use Rattle.bytes.specs.Padded.{numberAt};
 ghost use Rattle.bytes.specs.Reader.{skip as skipped, split as splitOff, truncate as cut, uint, address, addressSize, word, initialLength};
 ghost use Rattle.bytes.specs.declared.endianity.RunTimeEndian.the-variants.{Little};
 ghost use Rattle.ffi_words.specs.Common.{endianOf, endianIn, formatOf};
-ghost use Rattle.ffi_words.specs.Reads.{numberRead, numberOnly, placeRead, partRead, lengthRead};
+ghost use Rattle.ffi_words.specs.Reads.{numberRead, leb128Read, numberOnly, placeRead, partRead, lengthRead};
 
 #[no_mangle]
-pub extern "C" fn yz_uleb128(section: &[u8], at: usize) -> YzRead
-    ensures { λ r. ⌜ r ≡ numberRead (unsignedAt (now (section .entry)) at) ⌝ }
+pub extern "C" fn yz_uleb128(section: &[u8], at: usize) -> YzLeb128
+    ensures { λ r. ⌜ r ≡ leb128Read (numberAt (now (section .entry)) at) ⌝ }
 {
-    let r = bytes::leb128::unsigned(section, at);
-    ffi_words::reads::read_number(r)
+    let r = bytes::leb128::with_length(section, at);
+    ffi_words::reads::read_leb128(r)
 }
 
 #[no_mangle]

@@ -6,7 +6,7 @@ use ffi_words::locations::YzLocationEntry;
 use ffi_words::locations::YzRawLocation;
 use ffi_words::walks::WalkWords;
 ghost use mathlib.Core.Path.{_≡_};
-ghost use Rattle.lists.specs.Walk.{nextRawLocation};
+ghost use Rattle.lists.specs.Walk.{notedLocation};
 ghost use Rattle.ffi_words.specs.Common.{endianIn, encodingOf, left};
 ghost use Rattle.ffi_words.specs.Walks.{walkIn, splitIn};
 ghost use Rattle.ffi_words.specs.Entries.{rawLocationTold, rawLocationNext, convertLocation};
@@ -19,7 +19,7 @@ pub extern "C" fn yz_location_next_raw(
     encoding: YzEncoding,
     walk: &mut WalkWords,
 ) -> YzRawLocation
-    ensures { λ r. ⌜ left (rawLocationTold r) (now (walk .exit)) ≡ rawLocationNext (now (walk .entry)) (nextRawLocation (splitIn (now (walk .entry))) (encodingOf encoding) (endianIn encoding) (now (section .entry)) (walkIn (now (walk .entry)))) ⌝ }
+    ensures { λ r. ⌜ left (rawLocationTold r) (now (walk .exit)) ≡ rawLocationNext (now (walk .entry)) (notedLocation (splitIn (now (walk .entry))) (encodingOf encoding) (endianIn encoding) (now (section .entry)) (walkIn (now (walk .entry)))) ⌝ }
 {
     let start = ffi_words::walks::walk_in(walk);
     let file = ffi_words::walks::file_in(walk);

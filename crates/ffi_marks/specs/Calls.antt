@@ -4,7 +4,7 @@ use Prim.Native.Nat.{ℕ}
 use mathlib.Core.List.{List}
 use Rattle.entries.specs.declared.RawRngListEntry.{RawRngListEntry}
 use Rattle.entries.specs.declared.RawLocListEntry.{RawLocListEntry}
-use Rattle.lists.specs.Walk.{nextRange, nextRawRange, nextLocation, nextRawLocation}
+use Rattle.lists.specs.Walk.{nextRange, notedRange, nextLocation, notedLocation}
 use Rattle.marks.specs.Steps.{Reading}
 use Rattle.ffi_words.specs.Common.{endianIn, encodingOf, Left}
 use Rattle.ffi_words.specs.Entries.{RawTold, rawRangeNext, rawLocationNext, convertRange, convertLocation}
@@ -37,13 +37,13 @@ pub data Answer : Type 0 where
 abbrev pub answered : Call → List ℕ → Answer
 answered (range-next s table tableBase e) ws =
     range (rangeNext ws (nextRange (encodingOf e) (endianIn e) s table (record { 0 = tableBase }) (walkIn ws)))
-answered (range-next-raw s e) ws = raw-range (rawRangeNext ws (nextRawRange (encodingOf e) (endianIn e) s (walkIn ws)))
+answered (range-next-raw s e) ws = raw-range (rawRangeNext ws (notedRange (encodingOf e) (endianIn e) s (walkIn ws)))
 answered (range-convert-raw table tableBase e x) ws =
     range (rangeOutcome ws (convertRange (encodingOf e) (endianIn e) table (record { 0 = tableBase }) (walkIn ws) x))
 answered (location-next s table tableBase e) ws =
     location (locationNext ws (nextLocation (splitIn ws) (encodingOf e) (endianIn e) s table (record { 0 = tableBase }) (walkIn ws)))
 answered (location-next-raw s e) ws =
-    raw-location (rawLocationNext ws (nextRawLocation (splitIn ws) (encodingOf e) (endianIn e) s (walkIn ws)))
+    raw-location (rawLocationNext ws (notedLocation (splitIn ws) (encodingOf e) (endianIn e) s (walkIn ws)))
 answered (location-convert-raw table tableBase e x) ws =
     location (locationOutcome ws (convertLocation (encodingOf e) (endianIn e) table (record { 0 = tableBase }) (walkIn ws) x))
 

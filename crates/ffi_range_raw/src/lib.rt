@@ -6,7 +6,7 @@ use ffi_words::ranges::YzRangeEntry;
 use ffi_words::ranges::YzRawRange;
 use ffi_words::walks::WalkWords;
 ghost use mathlib.Core.Path.{_≡_};
-ghost use Rattle.lists.specs.Walk.{nextRawRange};
+ghost use Rattle.lists.specs.Walk.{notedRange};
 ghost use Rattle.ffi_words.specs.Common.{endianIn, encodingOf, left};
 ghost use Rattle.ffi_words.specs.Walks.{walkIn};
 ghost use Rattle.ffi_words.specs.Entries.{rawRangeTold, rawRangeNext, convertRange};
@@ -19,7 +19,7 @@ pub extern "C" fn yz_range_next_raw(
     encoding: YzEncoding,
     walk: &mut WalkWords,
 ) -> YzRawRange
-    ensures { λ r. ⌜ left (rawRangeTold r) (now (walk .exit)) ≡ rawRangeNext (now (walk .entry)) (nextRawRange (encodingOf encoding) (endianIn encoding) (now (section .entry)) (walkIn (now (walk .entry)))) ⌝ }
+    ensures { λ r. ⌜ left (rawRangeTold r) (now (walk .exit)) ≡ rawRangeNext (now (walk .entry)) (notedRange (encodingOf encoding) (endianIn encoding) (now (section .entry)) (walkIn (now (walk .entry)))) ⌝ }
 {
     let start = ffi_words::walks::walk_in(walk);
     let unit = ffi_words::common::encoding_of(encoding);

@@ -11,6 +11,7 @@ use Rattle.bytes.specs.declared.error.Error.the-variants.{UnsupportedAddressSiz
 use Rattle.tables.specs.Next.{Next, ends, hands}
 use Rattle.entries.specs.Filled.{Filled, whole}
 use Rattle.entries.specs.Listed.{noExpression}
+use Rattle.entries.specs.Padded.{Noted}
 use Rattle.entries.specs.declared.RawRngListEntry.{RawRngListEntry}
 use Rattle.entries.specs.declared.RawLocListEntry.{RawLocListEntry}
 use Rattle.entries.proofs.FilledLaws.{ranges-of, locations-of, Numbers, range-numbers, location-numbers}
@@ -54,39 +55,40 @@ location-numbers-once t u f p q =
 -- what a raw call tells is an entry whatever the walk hands out, so its equation leaves one answer, and one way to leave the words
 module _ {T E : Type 0} (handedIn : T → Result (Filled E)) (once : (t u : T) (f : Filled E) → handedIn t ≡ gives f → handedIn u ≡ gives f → t ≡ u)
     (none : T) (without : Filled E) (k : handedIn none ≡ gives without) (ws : List ℕ) where
-  abbrev entryTold : Next E Walk → Filled E
-  entryTold (hands (gives e) w) = whole e
+  abbrev entryTold : Next (Noted E) Walk → Filled E
+  entryTold (hands (gives x) w) = whole (x .entry)
   entryTold (ends w) = without
   entryTold (hands (refused n vs) w) = without
 
-  entry-told : (n : Next E Walk) → rawNext (handedIn none) ws n .answer .entry ≡ gives (entryTold n)
-  entry-told (hands (gives e) w) = refl
+  entry-told : (n : Next (Noted E) Walk) → rawNext (handedIn none) ws n .answer .entry ≡ gives (entryTold n)
+  entry-told (hands (gives x) w) = refl
   entry-told (ends w) = k
   entry-told (hands (refused n vs) w) = k
 
-  raw-once : (n : Next E Walk) (c d : YzDone) (t u : T) (us vs : List ℕ) → left (withEntry c (handedIn t)) us ≡ rawNext (handedIn none) ws n
-      → left (withEntry d (handedIn u)) vs ≡ rawNext (handedIn none) ws n → (c ≡ d) × (t ≡ u) × (us ≡ vs)
-  raw-once n c d t u us vs p q =
+  raw-once : (n : Next (Noted E) Walk) (c d : YzDone) (t u : T) (x y : ℕ) (us vs : List ℕ) → left (withEntry c (handedIn t) x) us ≡ rawNext (handedIn none) ws n
+      → left (withEntry d (handedIn u) y) vs ≡ rawNext (handedIn none) ws n → (c ≡ d) × (t ≡ u) × (x ≡ y) × (us ≡ vs)
+  raw-once n c d t u x y us vs p q =
       let e = p ∙ sym q in (
         ap (λ (l : Left (RawTold E)). l .answer .done) e,
         once t u (entryTold n) (ap (λ (l : Left (RawTold E)). l .answer .entry) p ∙ entry-told n) (ap (λ (l : Left (RawTold E)). l .answer .entry) q ∙ entry-told n),
+        ap (λ (l : Left (RawTold E)). l .answer .padded) e,
         ap (λ (l : Left (RawTold E)). l .lent) e,
       )
 
-abbrev rawRange : YzDone → YzRangeEntry → YzRawRange
-rawRange d t = record { done = d; entry = t }
+abbrev rawRange : ℕ → YzDone → YzRangeEntry → YzRawRange
+rawRange x d t = record { done = d; entry = t; padded = x }
 
-pub raw-range-once : (ws : List ℕ) (n : Next RawRngListEntry Walk) (a b : YzRawRange) (us vs : List ℕ) → left (rawRangeTold a) us ≡ rawRangeNext ws n
+pub raw-range-once : (ws : List ℕ) (n : Next (Noted RawRngListEntry) Walk) (a b : YzRawRange) (us vs : List ℕ) → left (rawRangeTold a) us ≡ rawRangeNext ws n
     → left (rawRangeTold b) vs ≡ rawRangeNext ws n → (a ≡ b) × (us ≡ vs)
 raw-range-once ws n a b us vs p q =
-    let o = raw-once rangeIn range-numbers-once noRangeEntry _ (ranges-of 0 0 .pair) ws n (a .done) (b .done) (a .entry) (b .entry) us vs p q in
-    (ap₂ rawRange (o .0) (o .1), o .2)
+    let o = raw-once rangeIn range-numbers-once noRangeEntry _ (ranges-of 0 0 .pair) ws n (a .done) (b .done) (a .entry) (b .entry) (a .padded) (b .padded) us vs p q in
+    (ap₂ (rawRange (a .padded)) (o .0) (o .1) ∙ ap (λ (x : ℕ). rawRange x (b .done) (b .entry)) (o .2), o .3)
 
-abbrev rawLocation : YzDone → YzLocationEntry → YzRawLocation
-rawLocation d t = record { done = d; entry = t }
+abbrev rawLocation : ℕ → YzDone → YzLocationEntry → YzRawLocation
+rawLocation x d t = record { done = d; entry = t; padded = x }
 
-pub raw-location-once : (ws : List ℕ) (n : Next RawLocListEntry Walk) (a b : YzRawLocation) (us vs : List ℕ) → left (rawLocationTold a) us ≡ rawLocationNext ws n
+pub raw-location-once : (ws : List ℕ) (n : Next (Noted RawLocListEntry) Walk) (a b : YzRawLocation) (us vs : List ℕ) → left (rawLocationTold a) us ≡ rawLocationNext ws n
     → left (rawLocationTold b) vs ≡ rawLocationNext ws n → (a ≡ b) × (us ≡ vs)
 raw-location-once ws n a b us vs p q =
-    let o = raw-once locationIn location-numbers-once noLocationEntry _ (locations-of 0 0 noExpression .pair) ws n (a .done) (b .done) (a .entry) (b .entry) us vs p q in
-    (ap₂ rawLocation (o .0) (o .1), o .2)
+    let o = raw-once locationIn location-numbers-once noLocationEntry _ (locations-of 0 0 noExpression .pair) ws n (a .done) (b .done) (a .entry) (b .entry) (a .padded) (b .padded) us vs p q in
+    (ap₂ (rawLocation (a .padded)) (o .0) (o .1) ∙ ap (λ (x : ℕ). rawLocation x (b .done) (b .entry)) (o .2), o .3)

@@ -11,12 +11,13 @@ use Rattle.bytes.specs.declared.endianity.RunTimeEndian.{RunTimeEndian}
 use Rattle.bytes.specs.declared.error.Error.the-variants.{UnsupportedAddressSize}
 use Rattle.tables.specs.Next.{Next}
 use Rattle.entries.specs.Filled.{Filled, whole, rangeOf, locationOf}
+use Rattle.entries.specs.Padded.{Noted}
 use Rattle.entries.specs.declared.Expression.{Expression}
 use Rattle.entries.specs.declared.RawRngListEntry.{RawRngListEntry}
 use Rattle.entries.specs.declared.RawLocListEntry.{RawLocListEntry}
 use Rattle.lists.specs.Walk.{Outcome, convertedRange, convertedLocation, comes}
 use Rattle.lists.specs.declared.Walk.{Walk}
-use Rattle.ffi_words.specs.Common.{part, noPart, done, Left}
+use Rattle.ffi_words.specs.Common.{numberOf, part, noPart, done, Left}
 use Rattle.ffi_words.specs.Items.{nextTold}
 use Rattle.ffi_words.specs.declared.common.YzDone.{YzDone}
 use Rattle.ffi_words.specs.declared.common.YzPart.{YzPart}
@@ -48,30 +49,31 @@ noRangeEntry = record { kind = 0; first = 0; second = 0 }
 abbrev pub noLocationEntry : YzLocationEntry
 noLocationEntry = record { kind = 0; first = 0; second = 0; expression = noPart }
 
--- what a raw call tells: what was done, and the entry that its numbers are. No others are that entry (`range-numbers-once`,
+-- what a raw call tells: what was done, the entry that its numbers are, and whether it has a padded number. No others are that entry (`range-numbers-once`,
 -- `location-numbers-once`, proofs/EntryLaws.antt)
 pub record RawTold (E : Type 0) : Type 0 where
   pub done : YzDone
   pub entry : Result (Filled E)
+  pub padded : ℕ
 
-abbrev pub withEntry : {E : Type 0} → YzDone → Result (Filled E) → RawTold E
-withEntry d e = record { done = d; entry = e }
+abbrev pub withEntry : {E : Type 0} → YzDone → Result (Filled E) → ℕ → RawTold E
+withEntry d e padded = record { done = d; entry = e; padded = padded }
 
 abbrev pub rawRangeTold : YzRawRange → RawTold RawRngListEntry
-rawRangeTold r = withEntry (r .done) (rangeIn (r .entry))
+rawRangeTold r = withEntry (r .done) (rangeIn (r .entry)) (r .padded)
 
 abbrev pub rawLocationTold : YzRawLocation → RawTold RawLocListEntry
-rawLocationTold r = withEntry (r .done) (locationIn (r .entry))
+rawLocationTold r = withEntry (r .done) (locationIn (r .entry)) (r .padded)
 
 -- an entry is told so that, handed back in, it is the same and nothing is over; without one, what is told is that of no entry
-abbrev pub rawNext : {E : Type 0} → Result (Filled E) → List ℕ → Next E Walk → Left (RawTold E)
-rawNext none ws n = nextTold (λ e. withEntry done (gives (whole e))) (λ d. withEntry d none) ws n
+abbrev pub rawNext : {E : Type 0} → Result (Filled E) → List ℕ → Next (Noted E) Walk → Left (RawTold E)
+rawNext none ws n = nextTold (λ x. withEntry done (gives (whole (x .entry))) (numberOf (x .padded))) (λ d. withEntry d none 0) ws n
 
 -- with no entry every number is 0
-abbrev pub rawRangeNext : List ℕ → Next RawRngListEntry Walk → Left (RawTold RawRngListEntry)
+abbrev pub rawRangeNext : List ℕ → Next (Noted RawRngListEntry) Walk → Left (RawTold RawRngListEntry)
 rawRangeNext ws n = rawNext (rangeIn noRangeEntry) ws n
 
-abbrev pub rawLocationNext : List ℕ → Next RawLocListEntry Walk → Left (RawTold RawLocListEntry)
+abbrev pub rawLocationNext : List ℕ → Next (Noted RawLocListEntry) Walk → Left (RawTold RawLocListEntry)
 rawLocationNext ws n = rawNext (locationIn noLocationEntry) ws n
 
 -- whatever is over

@@ -2,12 +2,14 @@
 use Prim.Native.Nat.{ℕ}
 use Rattle.bytes.specs.Read.{Result, gives, refused, got, Read}
 use Rattle.bytes.specs.declared.Span.{Span}
+use Rattle.bytes.specs.declared.leb128.Number.{Number}
 use Rattle.bytes.specs.declared.UnitLength.{UnitLength}
 use Rattle.ffi_words.specs.Common.{numberOf, isDwarf64, part, noPart, done, refusedBy}
 use Rattle.ffi_words.specs.declared.common.YzDone.{YzDone}
 use Rattle.ffi_words.specs.declared.common.YzPart.{YzPart}
 use Rattle.ffi_words.specs.declared.reads.YzNumber.{YzNumber}
 use Rattle.ffi_words.specs.declared.reads.YzRead.{YzRead}
+use Rattle.ffi_words.specs.declared.reads.YzLeb128.{YzLeb128}
 use Rattle.ffi_words.specs.declared.reads.YzPlace.{YzPlace}
 use Rattle.ffi_words.specs.declared.reads.YzSplitPart.{YzSplitPart}
 use Rattle.ffi_words.specs.declared.reads.YzUnitLength.{YzUnitLength}
@@ -33,6 +35,13 @@ read d c v = record { done = d; next = c; number = v }
 abbrev pub numberRead : Read ℕ → YzRead
 numberRead (gives (got v c)) = read done c v
 numberRead (refused n vs) = read (refusedBy n vs) 0 0
+
+abbrev pub leb128 : YzDone → ℕ → ℕ → ℕ → ℕ → YzLeb128
+leb128 d c v len padded = record { done = d; next = c; number = v; length = len; padded = padded }
+
+abbrev pub leb128Read : Read Number → YzLeb128
+leb128Read (gives (got x c)) = leb128 done c (x .value) (x .len) (numberOf (x .padded))
+leb128Read (refused n vs) = leb128 (refusedBy n vs) 0 0 0 0
 
 abbrev pub place : YzDone → ℕ → YzPlace
 place d c = record { done = d; next = c }

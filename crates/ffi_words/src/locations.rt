@@ -48,10 +48,12 @@ pub struct YzLocationEntry {
     pub expression: YzPart,
 }
 
+// 1 where some LEB128 number of the entry is padded.
 #[repr(C)]
 pub struct YzRawLocation {
     pub done: YzDone,
     pub entry: YzLocationEntry,
+    pub padded: u64,
 }
 
 fn expression_told(x: Expression) -> YzPart
@@ -202,11 +204,12 @@ pub fn raw_location(r: RawLocationAnswer, words: &mut WalkWords) -> YzRawLocatio
     ensures { λ a. ⌜ left (rawLocationTold a) (now (words .exit)) ≡ rawLocationNext (now (words .entry)) (toldRawLocation r) ⌝ }
 {
     match r {
-        RawLocationAnswer::Entry(raw, walk) => {
+        RawLocationAnswer::Entry(raw, padded, walk) => {
             super::walks::hand_back(words, walk);
             YzRawLocation {
                 done: super::common::comes_to(DONE),
                 entry: entry_out(raw),
+                padded: padded as u64,
             }
         }
         RawLocationAnswer::End(walk) => {
@@ -214,6 +217,7 @@ pub fn raw_location(r: RawLocationAnswer, words: &mut WalkWords) -> YzRawLocatio
             YzRawLocation {
                 done: super::common::comes_to(END),
                 entry: numbers(0, 0, 0),
+                padded: 0,
             }
         }
         RawLocationAnswer::Refused(e, walk) => {
@@ -221,6 +225,7 @@ pub fn raw_location(r: RawLocationAnswer, words: &mut WalkWords) -> YzRawLocatio
             YzRawLocation {
                 done: super::common::refused(e),
                 entry: numbers(0, 0, 0),
+                padded: 0,
             }
         }
     }

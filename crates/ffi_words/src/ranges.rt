@@ -44,10 +44,12 @@ pub struct YzRangeEntry {
     pub second: u64,
 }
 
+// 1 where some LEB128 number of the entry is padded.
 #[repr(C)]
 pub struct YzRawRange {
     pub done: YzDone,
     pub entry: YzRangeEntry,
+    pub padded: u64,
 }
 
 fn range_told(range: Range) -> YzRange
@@ -157,11 +159,12 @@ pub fn raw_range(r: RawRangeAnswer, words: &mut WalkWords) -> YzRawRange
     ensures { λ a. ⌜ left (rawRangeTold a) (now (words .exit)) ≡ rawRangeNext (now (words .entry)) (toldRawRange r) ⌝ }
 {
     match r {
-        RawRangeAnswer::Entry(raw, walk) => {
+        RawRangeAnswer::Entry(raw, padded, walk) => {
             super::walks::hand_back(words, walk);
             YzRawRange {
                 done: super::common::comes_to(DONE),
                 entry: entry_out(raw),
+                padded: padded as u64,
             }
         }
         RawRangeAnswer::End(walk) => {
@@ -169,6 +172,7 @@ pub fn raw_range(r: RawRangeAnswer, words: &mut WalkWords) -> YzRawRange
             YzRawRange {
                 done: super::common::comes_to(END),
                 entry: numbers(0, 0, 0),
+                padded: 0,
             }
         }
         RawRangeAnswer::Refused(e, walk) => {
@@ -176,6 +180,7 @@ pub fn raw_range(r: RawRangeAnswer, words: &mut WalkWords) -> YzRawRange
             YzRawRange {
                 done: super::common::refused(e),
                 entry: numbers(0, 0, 0),
+                padded: 0,
             }
         }
     }

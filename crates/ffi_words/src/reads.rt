@@ -6,10 +6,12 @@ use bytes::InitialLength;
 use bytes::Num;
 use bytes::Place;
 use bytes::Split;
+use bytes::leb128::NumberAnswer;
 ghost use mathlib.Core.Path.{_≡_};
 ghost use Rattle.bytes.specs.Error.{told, toldPlace, toldSplit, toldLength};
+ghost use Rattle.bytes.specs.Padded.{toldNumber};
 ghost use Rattle.ffi_words.specs.Common.{done};
-ghost use Rattle.ffi_words.specs.Reads.{numberTold, noNumber, numberRead, numberOnly, placeRead, partRead, lengthRead};
+ghost use Rattle.ffi_words.specs.Reads.{numberTold, noNumber, numberRead, leb128Read, numberOnly, placeRead, partRead, lengthRead};
 
 // A number.
 #[repr(C)]
@@ -24,6 +26,16 @@ pub struct YzRead {
     pub done: YzDone,
     pub next: u64,
     pub number: u64,
+}
+
+// The place after a LEB128 number, the number, how many bytes it took, and 1 where a shorter form of it exists.
+#[repr(C)]
+pub struct YzLeb128 {
+    pub done: YzDone,
+    pub next: u64,
+    pub number: u64,
+    pub length: u64,
+    pub padded: u64,
 }
 
 // The place after what was passed over.
@@ -78,6 +90,27 @@ pub fn read_number(r: Num) -> YzRead
             done: super::common::refused(e),
             next: 0,
             number: 0,
+        },
+    }
+}
+
+pub fn read_leb128(r: NumberAnswer) -> YzLeb128
+    ensures { λ w. ⌜ w ≡ leb128Read (toldNumber r) ⌝ }
+{
+    match r {
+        NumberAnswer::Got(x, c) => YzLeb128 {
+            done: super::common::comes_to(DONE),
+            next: c as u64,
+            number: x.value,
+            length: x.len as u64,
+            padded: x.padded as u64,
+        },
+        NumberAnswer::Refused(e) => YzLeb128 {
+            done: super::common::refused(e),
+            next: 0,
+            number: 0,
+            length: 0,
+            padded: 0,
         },
     }
 }

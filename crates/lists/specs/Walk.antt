@@ -15,6 +15,7 @@ use Rattle.bytes.specs.declared.error.Error.the-variants.{UnsupportedAddressSiz
 use Rattle.tables.specs.Next.{Next, ends, hands}
 use Rattle.entries.specs.Forms.{Raw, stop, entry}
 use Rattle.entries.specs.Listed.{EntryIn, entryIn, readIn}
+use Rattle.entries.specs.Padded.{Noted, paddedIn}
 use Rattle.entries.specs.declared.Expression.{Expression}
 use Rattle.entries.specs.declared.RawRngListEntry.{RawRngListEntry}
 use Rattle.entries.specs.declared.RawLocListEntry.{RawLocListEntry}
@@ -144,12 +145,24 @@ nextOf l split encoding endian s table tableBase w =
 abbrev pub nextRawOf : (l : Bool) → Bool → Encoding → RunTimeEndian → List ℕ → Walk → Next (EntryIn l) Walk
 nextRawOf l split encoding endian s w = nextRaw (listed l split encoding endian s) (encoding .«address_size») (length s) w
 
+-- the raw call gives with an entry whether some LEB128 number of it is padded; the end and a refusal give no such thing
+abbrev pub noted : {E : Type 0} → Bool → Next E Walk → Next (Noted E) Walk
+noted p (hands (gives e) w) = hands (gives (record { entry = e; padded = p })) w
+noted p (hands (refused n vs) w) = hands (refused n vs) w
+noted p (ends w) = ends w
+
+abbrev pub notedOf : (l : Bool) → Bool → Encoding → RunTimeEndian → List ℕ → Walk → Next (Noted (EntryIn l)) Walk
+notedOf l split encoding endian s w = noted (paddedIn l split encoding endian s (w .at)) (nextRawOf l split encoding endian s w)
+
 -- each list's calls
 abbrev pub nextRange : Encoding → RunTimeEndian → List ℕ → List ℕ → DebugAddrBase → Walk → Next (Item Unit) Walk
 nextRange encoding endian s table tableBase w = nextOf false false encoding endian s table tableBase w
 
 abbrev pub nextRawRange : Encoding → RunTimeEndian → List ℕ → Walk → Next RawRngListEntry Walk
 nextRawRange encoding endian s w = nextRawOf false false encoding endian s w
+
+abbrev pub notedRange : Encoding → RunTimeEndian → List ℕ → Walk → Next (Noted RawRngListEntry) Walk
+notedRange encoding endian s w = notedOf false false encoding endian s w
 
 abbrev pub convertedRange : Encoding → RunTimeEndian → List ℕ → DebugAddrBase → Walk → RawRngListEntry → Outcome Unit
 convertedRange encoding endian table tableBase w e = convertRaw (ranges encoding endian table) (tableAt endian encoding tableBase table) (encoding .«address_size») w e
@@ -160,12 +173,15 @@ nextLocation split encoding endian s table tableBase w = nextOf true split encod
 abbrev pub nextRawLocation : Bool → Encoding → RunTimeEndian → List ℕ → Walk → Next RawLocListEntry Walk
 nextRawLocation split encoding endian s w = nextRawOf true split encoding endian s w
 
+abbrev pub notedLocation : Bool → Encoding → RunTimeEndian → List ℕ → Walk → Next (Noted RawLocListEntry) Walk
+notedLocation split encoding endian s w = notedOf true split encoding endian s w
+
 abbrev pub convertedLocation : Encoding → RunTimeEndian → List ℕ → DebugAddrBase → Walk → RawLocListEntry → Outcome Expression
 convertedLocation encoding endian table tableBase w e = convertRaw (locations false encoding endian table) (tableAt endian encoding tableBase table) (encoding .«address_size») w e
 
 -- the code's answers told as the definitions'
-abbrev pub toldRawRange : RawRangeAnswer → Next RawRngListEntry Walk
-toldRawRange (rawRng.Entry e w) = hands (gives e) w
+abbrev pub toldRawRange : RawRangeAnswer → Next (Noted RawRngListEntry) Walk
+toldRawRange (rawRng.Entry e p w) = hands (gives (record { entry = e; padded = p })) w
 toldRawRange (rawRng.End w) = ends w
 toldRawRange (rawRng.Refused e w) = hands (refusal e) w
 
@@ -179,8 +195,8 @@ toldNextRange (rng.Range r w) = hands (gives (item (r .begin) (r .end) tt)) w
 toldNextRange (rng.End w) = ends w
 toldNextRange (rng.Refused e w) = hands (refusal e) w
 
-abbrev pub toldRawLocation : RawLocationAnswer → Next RawLocListEntry Walk
-toldRawLocation (rawLoc.Entry e w) = hands (gives e) w
+abbrev pub toldRawLocation : RawLocationAnswer → Next (Noted RawLocListEntry) Walk
+toldRawLocation (rawLoc.Entry e p w) = hands (gives (record { entry = e; padded = p })) w
 toldRawLocation (rawLoc.End w) = ends w
 toldRawLocation (rawLoc.Refused e w) = hands (refusal e) w
 
@@ -207,10 +223,10 @@ nextIn l (hands (gives i) w) = hands (gives (itemIn l i)) w
 nextIn l (hands (refused n vs) w) = hands (refused n vs) w
 nextIn l (ends w) = ends w
 
-abbrev pub nextRawIn : (l : Bool) → Next RawLocListEntry Walk → Next (EntryIn l) Walk
-nextRawIn l (hands (gives e) w) = hands (gives (entryIn l e)) w
-nextRawIn l (hands (refused n vs) w) = hands (refused n vs) w
-nextRawIn l (ends w) = ends w
+abbrev pub notedIn : (l : Bool) → Next (Noted RawLocListEntry) Walk → Next (Noted (EntryIn l)) Walk
+notedIn l (hands (gives x) w) = hands (gives (record { entry = entryIn l (x .entry); padded = x .padded })) w
+notedIn l (hands (refused n vs) w) = hands (refused n vs) w
+notedIn l (ends w) = ends w
 
 abbrev pub outcomeIn : (l : Bool) → Outcome Expression → Outcome (CarriedIn l)
 outcomeIn l (comes (gives i) w) = comes (gives (itemIn l i)) w

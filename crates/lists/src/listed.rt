@@ -12,13 +12,14 @@ use bytes::endianity::RunTimeEndian;
 use bytes::error::Error;
 use entries::Expression;
 use entries::LocationStep;
+use entries::RawLocationStep;
 use entries::RawRngListEntry;
 ghost use mathlib.Core.Path.{_≡_};
 ghost use Rattle.lists.specs.Convert.{tableAt};
-ghost use Rattle.lists.specs.Walk.{toldRawLocation, nextRawIn, nextRawOf, toldConvertedLocation, converted, toldNextLocation, nextIn, nextOf};
+ghost use Rattle.lists.specs.Walk.{toldRawLocation, notedIn, notedOf, toldConvertedLocation, converted, toldNextLocation, nextIn, nextOf};
 
-// The next raw entry: 6 with the size before all else, then the refusals of an entry. The end mark and a refusal empty
-// the walk.
+// The next raw entry, and whether some LEB128 number of it is padded: 6 with the size before all else, then the refusals of an
+// entry. The end mark and a refusal empty the walk.
 pub fn next_raw(
     section: &[u8],
     walk: Walk,
@@ -27,7 +28,7 @@ pub fn next_raw(
     locations: bool,
     split: bool,
 ) -> RawLocationAnswer
-    ensures { λ r. ⌜ nextRawIn locations (toldRawLocation r) ≡ nextRawOf locations split encoding endian (now (section .entry)) walk ⌝ }
+    ensures { λ r. ⌜ notedIn locations (toldRawLocation r) ≡ notedOf locations split encoding endian (now (section .entry)) walk ⌝ }
 {
     let at = walk.at;
     let base_address = walk.base_address;
@@ -37,21 +38,22 @@ pub fn next_raw(
         if section.len() <= at {
             return RawLocationAnswer::End(walk);
         }
-        return match entries::raw::raw_entry(section, at, encoding, endian, locations, split) {
-            LocationStep::Entry(raw, c) => RawLocationAnswer::Entry(
+        return match entries::padded::noted_entry(section, at, encoding, endian, locations, split) {
+            RawLocationStep::Entry(raw, padded, c) => RawLocationAnswer::Entry(
                 raw,
+                padded,
                 Walk {
                     at: c,
                     base_address,
                     entries: super::count::one_more(entries),
                 },
             ),
-            LocationStep::End => RawLocationAnswer::End(Walk {
+            RawLocationStep::End => RawLocationAnswer::End(Walk {
                 at: section.len(),
                 base_address,
                 entries: super::count::one_more(entries),
             }),
-            LocationStep::Refused(e) => RawLocationAnswer::Refused(
+            RawLocationStep::Refused(e) => RawLocationAnswer::Refused(
                 e,
                 Walk {
                     at: section.len(),

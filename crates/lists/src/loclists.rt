@@ -14,7 +14,7 @@ ghost use mathlib.Core.Path.{_≡_};
 ghost use Rattle.lists.specs.Open.{toldOpened, opened, sectionFor};
 ghost use Rattle.bytes.specs.Common.{isSplit};
 ghost use Rattle.bytes.specs.Reader.{partOf};
-ghost use Rattle.lists.specs.Walk.{toldRawLocation, nextRawLocation, toldConvertedLocation, convertedLocation, toldNextLocation, nextLocation};
+ghost use Rattle.lists.specs.Walk.{toldRawLocation, notedLocation, toldConvertedLocation, convertedLocation, toldNextLocation, nextLocation};
 
 // The section that the lists of a version stand in.
 pub fn section<'a>(debug_loc: &'a [u8], debug_loclists: &'a [u8], encoding: Encoding) -> &'a [u8]
@@ -46,13 +46,13 @@ pub fn raw_locations(section: &[u8], offset: LocationListsOffset, encoding: Enco
 }
 
 pub enum RawLocationAnswer {
-    Entry(RawLocListEntry, Walk),
+    Entry(RawLocListEntry, bool, Walk),
     End(Walk),
     Refused(Error, Walk),
 }
 
-// The next raw entry: 6 with the size before all else, then the refusals of an entry. The end mark and a refusal empty
-// the walk.
+// The next raw entry, and whether some LEB128 number of it is padded: 6 with the size before all else, then the refusals of an
+// entry. The end mark and a refusal empty the walk.
 pub fn next_raw(
     section: &[u8],
     walk: Walk,
@@ -60,7 +60,7 @@ pub fn next_raw(
     endian: RunTimeEndian,
     file_type: DwarfFileType,
 ) -> RawLocationAnswer
-    ensures { λ r. ⌜ toldRawLocation r ≡ nextRawLocation (isSplit «file_type») encoding endian (now (section .entry)) walk ⌝ }
+    ensures { λ r. ⌜ toldRawLocation r ≡ notedLocation (isSplit «file_type») encoding endian (now (section .entry)) walk ⌝ }
 {
     let split = file_type.is_split();
     super::listed::next_raw(section, walk, encoding, endian, true, split)

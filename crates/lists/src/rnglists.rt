@@ -14,7 +14,7 @@ use entries::Expression;
 use entries::RawRngListEntry;
 ghost use mathlib.Core.Path.{_≡_};
 ghost use Rattle.lists.specs.Open.{toldOpened, opened, sectionFor};
-ghost use Rattle.lists.specs.Walk.{toldRawRange, nextRawRange, toldConvertedRange, convertedRange, toldNextRange, nextRange};
+ghost use Rattle.lists.specs.Walk.{toldRawRange, notedRange, toldConvertedRange, convertedRange, toldNextRange, nextRange};
 
 // The section that the lists of a version stand in.
 pub fn section<'a>(debug_ranges: &'a [u8], debug_rnglists: &'a [u8], encoding: Encoding) -> &'a [u8]
@@ -46,24 +46,25 @@ pub fn raw_ranges(section: &[u8], offset: RangeListsOffset, encoding: Encoding) 
 }
 
 pub enum RawRangeAnswer {
-    Entry(RawRngListEntry, Walk),
+    Entry(RawRngListEntry, bool, Walk),
     End(Walk),
     Refused(Error, Walk),
 }
 
-// The next raw entry: 6 with the size before all else, then the refusals of an entry. The end mark and a refusal empty
-// the walk.
+// The next raw entry, and whether some LEB128 number of it is padded: 6 with the size before all else, then the refusals of an
+// entry. The end mark and a refusal empty the walk.
 pub fn next_raw(
     section: &[u8],
     walk: Walk,
     encoding: Encoding,
     endian: RunTimeEndian,
 ) -> RawRangeAnswer
-    ensures { λ r. ⌜ toldRawRange r ≡ nextRawRange encoding endian (now (section .entry)) walk ⌝ }
+    ensures { λ r. ⌜ toldRawRange r ≡ notedRange encoding endian (now (section .entry)) walk ⌝ }
 {
     match super::listed::next_raw(section, walk, encoding, endian, false, false) {
-        RawLocationAnswer::Entry(raw, after) => RawRangeAnswer::Entry(
+        RawLocationAnswer::Entry(raw, padded, after) => RawRangeAnswer::Entry(
             entries::raw::bounds_of(raw),
+            padded,
             after,
         ),
         RawLocationAnswer::End(after) => RawRangeAnswer::End(after),

@@ -17,9 +17,11 @@ use Rattle.bytes.specs.declared.common.DebugAddrBase.{DebugAddrBase}
 use Rattle.bytes.specs.declared.common.Encoding.{Encoding}
 use Rattle.bytes.specs.declared.endianity.RunTimeEndian.{RunTimeEndian}
 use Rattle.entries.specs.Listed.{EntryIn}
+use Rattle.entries.specs.Padded.{paddedIn}
+use Rattle.tables.specs.Next.{Next, ends, hands}
 use Rattle.lists.specs.Convert.{tableAt}
-use Rattle.lists.specs.Counted.{leftAfter, Reached, by-opening, by-next, by-next-raw, by-convert-raw}
-use Rattle.lists.specs.Walk.{listed, convertRaw}
+use Rattle.lists.specs.Counted.{leftBy, leftAfter, Reached, by-opening, by-next, by-next-raw, by-convert-raw}
+use Rattle.lists.specs.Walk.{listed, nextRawOf, noted, convertRaw}
 use Rattle.lists.specs.declared.Walk.{Walk}
 use Rattle.lists.proofs.CountLaws.{listed-counted}
 use Rattle.marks.specs.Marks.{Keeping, Marked, marked, fresh, stored, setMark, returnTo, answered}
@@ -212,13 +214,22 @@ unfolding convertRaw
 converted-as true split encoding endian s table tableBase w e = refl
 converted-as false split encoding endian s table tableBase w e = refl
 
+-- the walk that a raw call hands back, whatever is noted of the entry
+left-noted : {E : Type 0} (p : Bool) (n : Next E Walk) → leftBy (noted p n) ≡ leftBy n
+left-noted p (hands (gives e) w) = refl
+left-noted p (hands (refused k vs) w) = refl
+left-noted p (ends w) = refl
+
 module _ (x : Source) (offset : ℕ) where
   abbrev From : Walk → Type 0
   From = Reached (x .encoding) (x .section) (listed (x .locations) (x .split) (x .encoding) (x .endian) (x .section)) offset
 
   call-from : (c : call.Call (x .locations)) (w : Walk) → From w → From (call.left (call.answer x c w))
   call-from (call.next table tableBase) w q = by-next (tableAt (x .endian) (x .encoding) tableBase table) w q
-  call-from call.nextRaw w q = by-next-raw w q
+  call-from call.nextRaw w q =
+      subst From
+      (sym (left-noted (paddedIn (x .locations) (x .split) (x .encoding) (x .endian) (x .section) (w .at)) (nextRawOf (x .locations) (x .split) (x .encoding) (x .endian) (x .section) w)))
+      (by-next-raw w q)
   call-from (call.convertRaw table tableBase e) w q =
       subst From (sym (converted-as (x .locations) (x .split) (x .encoding) (x .endian) (x .section) table tableBase w e))
       (by-convert-raw (tableAt (x .endian) (x .encoding) tableBase table) e w q)

@@ -8,8 +8,9 @@ use Rattle.bytes.specs.declared.common.Encoding.{Encoding}
 use Rattle.bytes.specs.declared.endianity.RunTimeEndian.{RunTimeEndian}
 use Rattle.tables.specs.Next.{Next}
 use Rattle.entries.specs.Listed.{EntryIn}
+use Rattle.entries.specs.Padded.{Noted}
 use Rattle.lists.specs.Counted.{leftBy, leftAfter}
-use Rattle.lists.specs.Walk.{CarriedIn, Item, Outcome, nextOf, nextRawOf, convertedRange, convertedLocation}
+use Rattle.lists.specs.Walk.{CarriedIn, Item, Outcome, nextOf, notedOf, convertedRange, convertedLocation}
 use Rattle.lists.specs.declared.Walk.{Walk}
 use Rattle.marks.specs.Steps.{Reading}
 
@@ -29,7 +30,7 @@ pub data Call (l : Bool) : Type 0 where
 
 pub data Answer (l : Bool) : Type 0 where
   item : Next (Item (CarriedIn l)) Walk → Answer l
-  raw : Next (EntryIn l) Walk → Answer l
+  raw : Next (Noted (EntryIn l)) Walk → Answer l
   converted : Outcome (CarriedIn l) → Answer l
 
 abbrev pub convertedOf : (l : Bool) → Encoding → RunTimeEndian → List ℕ → DebugAddrBase → Walk → EntryIn l → Outcome (CarriedIn l)
@@ -38,7 +39,7 @@ convertedOf false encoding endian table tableBase w e = convertedRange encoding 
 
 abbrev pub answer : (x : Source) → Call (x .locations) → Walk → Answer (x .locations)
 answer x (next table tableBase) w = item (nextOf (x .locations) (x .split) (x .encoding) (x .endian) (x .section) table tableBase w)
-answer x nextRaw w = raw (nextRawOf (x .locations) (x .split) (x .encoding) (x .endian) (x .section) w)
+answer x nextRaw w = raw (notedOf (x .locations) (x .split) (x .encoding) (x .endian) (x .section) w)
 answer x (convertRaw table tableBase e) w = converted (convertedOf (x .locations) (x .encoding) (x .endian) table tableBase w e)
 
 abbrev pub left : {l : Bool} → Answer l → Walk

@@ -74,7 +74,7 @@ fn raw_entry(raw: RawLocListEntry, walk: Walk) -> Turn {
 
 fn raw_answer(r: RawLocationAnswer) -> Turn {
     match r {
-        RawLocationAnswer::Entry(raw, after) => raw_entry(raw, after),
+        RawLocationAnswer::Entry(raw, _, after) => raw_entry(raw, after),
         RawLocationAnswer::End(after) => show::ended(after),
         RawLocationAnswer::Refused(e, after) => show::refused_at(e, after),
     }
@@ -94,7 +94,7 @@ pub(crate) fn next_converted(section: &[u8], table: &[u8], call: Call, walk: Wal
     let file_type = file_type_of(call);
     let r = lists::loclists::next_raw(section, walk, encoding, endian, file_type);
     let turn = raw_answer(r);
-    let RawLocationAnswer::Entry(raw, after) = r else {
+    let RawLocationAnswer::Entry(raw, _, after) = r else {
         return turn;
     };
     convert(raw, table, call, after)

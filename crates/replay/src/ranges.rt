@@ -95,7 +95,7 @@ fn raw_entry(raw: RawRngListEntry, walk: Walk) -> Turn {
 
 fn raw_answer(r: RawRangeAnswer) -> Turn {
     match r {
-        RawRangeAnswer::Entry(raw, after) => raw_entry(raw, after),
+        RawRangeAnswer::Entry(raw, _, after) => raw_entry(raw, after),
         RawRangeAnswer::End(after) => show::ended(after),
         RawRangeAnswer::Refused(e, after) => show::refused_at(e, after),
     }
@@ -113,7 +113,7 @@ pub(crate) fn next_converted(section: &[u8], table: &[u8], call: Call, walk: Wal
     let endian = call.endian;
     let r = lists::rnglists::next_raw(section, walk, encoding, endian);
     let turn = raw_answer(r);
-    let RawRangeAnswer::Entry(raw, after) = r else {
+    let RawRangeAnswer::Entry(raw, _, after) = r else {
         return turn;
     };
     convert(raw, table, call, after)

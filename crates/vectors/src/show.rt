@@ -7,9 +7,9 @@ use bytes::common::Encoding;
 use bytes::common::Format;
 use bytes::error::Error;
 use entries::Expression;
-use entries::LocationStep;
-use entries::RangeStep;
 use entries::RawLocListEntry;
+use entries::RawLocationStep;
+use entries::RawRangeStep;
 use entries::RawRngListEntry;
 use libc::STDOUT_FILENO;
 use tables::addr::AddrHeaderAnswer;
@@ -220,15 +220,15 @@ fn range_entry(x: RawRngListEntry) {
     }
 }
 
-pub(crate) fn range(label: &[u8], r: RangeStep) {
+pub(crate) fn range(label: &[u8], r: RawRangeStep) {
     say(label);
     match r {
-        RangeStep::Entry(x, c) => {
+        RawRangeStep::Entry(x, _, c) => {
             range_entry(x);
             next(c);
         }
-        RangeStep::End => say(b" end"),
-        RangeStep::Refused(e) => refused(e),
+        RawRangeStep::End => say(b" end"),
+        RawRangeStep::Refused(e) => refused(e),
     }
     end_line();
 }
@@ -250,15 +250,15 @@ fn location_entry(x: RawLocListEntry) {
     }
 }
 
-pub(crate) fn location(label: &[u8], r: LocationStep) {
+pub(crate) fn location(label: &[u8], r: RawLocationStep) {
     say(label);
     match r {
-        LocationStep::Entry(x, c) => {
+        RawLocationStep::Entry(x, _, c) => {
             location_entry(x);
             next(c);
         }
-        LocationStep::End => say(b" end"),
-        LocationStep::Refused(e) => refused(e),
+        RawLocationStep::End => say(b" end"),
+        RawLocationStep::Refused(e) => refused(e),
     }
     end_line();
 }

@@ -101,7 +101,7 @@ fn handed(label: &[u8], list: &[u8], address_size: u8, at: usize, entries: u64) 
 // A call of next_raw, and of convert_raw on what it gave.
 fn raw_step(list: &[u8], walk: Walk) -> Walk {
     match lists::rnglists::next_raw(list, walk, encoding(5, 4), RunTimeEndian::Little) {
-        RawRangeAnswer::Entry(raw, after) => {
+        RawRangeAnswer::Entry(raw, _, after) => {
             say(b" entry");
             stands(after);
             match lists::rnglists::convert_raw(

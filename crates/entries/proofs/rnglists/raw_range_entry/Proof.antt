@@ -2,14 +2,12 @@
 use mathlib.Core.Bool.{false}
 use mathlib.Core.Path.{sym, ap, _∙_}
 use borrow.Author.Needs.{needs}
-use Rattle.entries.specs.Told.{toldLocation}
-use Rattle.entries.specs.Listed.{stepIn}
-use Rattle.entries.proofs.HeadLaws.{entry-built}
+use Rattle.entries.specs.Padded.{toldLocationStep, notedStepIn}
 use Rattle.entries.proofs.rnglists.raw_range_entry.Statement.{statement}
 use Rattle.entries.proofs.rnglists.raw_range_entry.Tie as tie
 
-raw-entry-requires : tie.Need-raw-entry-requires
-raw-entry-requires c κs = search needs
+noted-entry-requires : tie.Need-noted-entry-requires
+noted-entry-requires c κs = search needs
 
 enum-known-e : tie.Need-enum-known-e
 enum-known-e c = search needs
@@ -24,19 +22,19 @@ enum-known-e-2 : tie.Need-enum-known-e-2
 enum-known-e-2 c = search needs
 
 returns : tie.Need-returns
-returns c = entry-built (c .bounds-of .ensures) (sym (ap (λ r. stepIn false (toldLocation r)) (c .before .before .e .given .1)) ∙ c .before .before .before .before .raw-entry .ensures)
+returns c = rw (c .bounds-of .ensures) (sym (ap (λ r. notedStepIn false (toldLocationStep r)) (c .before .before .e .given .1)) ∙ c .before .before .before .before .noted-entry .ensures)
 
 returns-2 : tie.Need-returns-2
-returns-2 c = sym (ap (λ r. stepIn false (toldLocation r)) (c .enum-told .given .1)) ∙ c .before .before .raw-entry .ensures
+returns-2 c = sym (ap (λ r. notedStepIn false (toldLocationStep r)) (c .enum-told .given .1)) ∙ c .before .before .noted-entry .ensures
 
 returns-3 : tie.Need-returns-3
-returns-3 c = sym (ap (λ r. stepIn false (toldLocation r)) (c .before .e2 .given .1)) ∙ c .before .before .before .raw-entry .ensures
+returns-3 c = sym (ap (λ r. notedStepIn false (toldLocationStep r)) (c .before .e2 .given .1)) ∙ c .before .before .before .noted-entry .ensures
 
 pub raw-range-entry-spec : {M : Type 1} → statement M
 raw-range-entry-spec =
     tie.close
     (tie.spec
-    raw-entry-requires
+    noted-entry-requires
     enum-known-e
     bounds-of-requires
     enum-told

@@ -15,6 +15,9 @@ comes-to-requires c κs = search needs
 entry-out-requires : tie.Need-entry-out-requires
 entry-out-requires c κs = search needs
 
+cast-t14 : tie.Need-cast-t14
+cast-t14 c = search needs
+
 enum-known-r-2 : tie.Need-enum-known-r-2
 enum-known-r-2 c = search needs
 
@@ -56,6 +59,7 @@ raw-location-spec =
     hand-back-requires
     comes-to-requires
     entry-out-requires
+    cast-t14
     enum-known-r-2
     hand-back-requires-2
     comes-to-requires-2

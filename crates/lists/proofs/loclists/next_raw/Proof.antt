@@ -1,7 +1,7 @@
 -- An answer for a location is the code's own. Assumes nothing.
 use mathlib.Core.Path.{sym, _∙_}
 use borrow.Author.Needs.{needs}
-use Rattle.lists.proofs.ListedLaws.{raw-same}
+use Rattle.lists.proofs.ListedLaws.{noted-same}
 use Rattle.lists.proofs.loclists.next_raw.Statement.{statement}
 use Rattle.lists.proofs.loclists.next_raw.Tie as tie
 
@@ -12,7 +12,7 @@ next-raw-requires : tie.Need-next-raw-requires
 next-raw-requires c κs = search needs
 
 returns : tie.Need-returns
-returns c = rw (← c .before .is-split .ensures) (sym (raw-same _) ∙ c .next-raw .ensures)
+returns c = rw (← c .before .is-split .ensures) (sym (noted-same _) ∙ c .next-raw .ensures)
 
 pub next-raw-spec : {M : Type 1} → statement M
 next-raw-spec = tie.close (tie.spec is-split-requires next-raw-requires returns)

@@ -2,7 +2,7 @@
 use mathlib.Core.Bool.{false}
 use mathlib.Core.Path.{sym, ap, _∙_}
 use borrow.Author.Needs.{needs}
-use Rattle.lists.specs.Walk.{nextRawIn, toldRawLocation}
+use Rattle.lists.specs.Walk.{notedIn, toldRawLocation}
 use Rattle.lists.proofs.rnglists.next_raw.Statement.{statement}
 use Rattle.lists.proofs.rnglists.next_raw.Tie as tie
 
@@ -22,13 +22,13 @@ enum-known-e : tie.Need-enum-known-e
 enum-known-e c = search needs
 
 returns : tie.Need-returns
-returns c = rw (c .bounds-of .ensures) (sym (ap (λ r. nextRawIn false (toldRawLocation r)) (c .before .before .raw .given .1)) ∙ c .before .before .before .before .next-raw .ensures)
+returns c = rw (c .bounds-of .ensures) (sym (ap (λ r. notedIn false (toldRawLocation r)) (c .before .before .raw .given .1)) ∙ c .before .before .before .before .next-raw .ensures)
 
 returns-2 : tie.Need-returns-2
-returns-2 c = sym (ap (λ r. nextRawIn false (toldRawLocation r)) (c .before .after .given .1)) ∙ c .before .before .before .next-raw .ensures
+returns-2 c = sym (ap (λ r. notedIn false (toldRawLocation r)) (c .before .after .given .1)) ∙ c .before .before .before .next-raw .ensures
 
 returns-3 : tie.Need-returns-3
-returns-3 c = sym (ap (λ r. nextRawIn false (toldRawLocation r)) (c .before .e .given .1)) ∙ c .before .before .before .next-raw .ensures
+returns-3 c = sym (ap (λ r. notedIn false (toldRawLocation r)) (c .before .e .given .1)) ∙ c .before .before .before .next-raw .ensures
 
 pub next-raw-spec : {M : Type 1} → statement M
 next-raw-spec =

@@ -1,9 +1,9 @@
--- `canonical::unsigned_size` meets its contract: the bytes counted, with those of what is left, are all of them. Assumes
+-- `bytes::leb128::unsigned_size` meets its contract: the bytes counted, with those of what is left, are all of them. Assumes
 -- nothing.
 use native.Mathlib.Omega.{arith}
-use Rattle.canonical.proofs.Unsigned.{Counted, counted-start, counted-step, counted-end}
-use Rattle.canonical.proofs.unsigned_size.Statement.{statement}
-use Rattle.canonical.proofs.unsigned_size.Tie as tie
+use Rattle.bytes.proofs.WrittenLaws.{Counted, counted-start, counted-step, counted-end}
+use Rattle.bytes.proofs.leb128.unsigned_size.Statement.{statement}
+use Rattle.bytes.proofs.leb128.unsigned_size.Tie as tie
 
 abbrev Inv-loop : tie.InvT-loop
 Inv-loop x n₀ rest₀ n rest = Counted x n rest
