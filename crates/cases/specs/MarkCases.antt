@@ -7,7 +7,9 @@ use Prim.Native.Nat.{ℕ, _-_, _^_}
 use Rattle.bytes.specs.Read.{Result, gives, refused}
 use Rattle.bytes.specs.Endianity.{little}
 use Rattle.bytes.specs.Leb128.{unsignedFrom, unsigned}
+use Rattle.bytes.specs.Padded.{isPadded, numberAt}
 use Rattle.bytes.specs.Reader.{skip, uint, split, isSize, address}
+use Rattle.bytes.specs.Written.{unsignedIn}
 use Rattle.bytes.specs.declared.endianity.RunTimeEndian.the-variants.{Little}
 use Rattle.tables.specs.Row.{rowAt}
 use Rattle.tables.specs.Next.{ends, hands}
@@ -15,6 +17,7 @@ use Rattle.tables.specs.Addr.{addressAt}
 use Rattle.entries.specs.Forms.{versionedLength, block}
 use Rattle.entries.specs.Kinds.{rangeKinds, locationKinds, kindOf, coded, rangeEntry, locationEntry, rawAt}
 use Rattle.entries.specs.Listed.{EntryIn}
+use Rattle.entries.specs.Padded.{codedPadded, rangePart, locationPart}
 use Rattle.entries.specs.declared.Expression.{Expression}
 use Rattle.entries.specs.declared.RawRngListEntry.the-variants.{BaseAddress, OffsetPair}
 use Rattle.entries.specs.declared.RawLocListEntry.the-variants as loc
@@ -82,8 +85,8 @@ not-set = refl
 -- steps from a walk with no mark set: what they tell, and the walk with its marks behind them
 along : (x : Source) → List (Step (Call (x .locations))) → Walk → List (Tells (Answer (x .locations)))
 unfolding
-    next nextRaw convertRaw oneMore trace traceFrom convert addressAt rowAt rangeEntry locationEntry rawAt coded kindOf rangeKinds locationKinds versionedLength block split address skip uint isSize
-    little unsigned unsignedFrom
+    next nextRaw convertRaw oneMore trace traceFrom convert addressAt rowAt rangeEntry locationEntry rawAt coded kindOf rangeKinds locationKinds versionedLength block split rangePart locationPart
+    codedPadded numberAt isPadded address skip uint isSize little unsigned unsignedFrom unsignedIn
 along x steps w = answers structs (over x) steps (fresh structs w)
 
 behind : (x : Source) → List (Step (Call (x .locations))) → Walk → Marked Walk Mark
@@ -106,7 +109,8 @@ nexts = reads call
 abbrev converts : {l : Bool} → EntryIn l → Step (Call l)
 converts e = reads (calls.convertRaw table (record { 0 = 8 }) e)
 
--- what is told: an item, the end, a refusal, each with the walk; a marking that is done, and one that is refused
+-- what is told: an item, the end, a refusal, a raw entry without a padded number, each with the walk; a marking that is done, and one that is
+-- refused
 abbrev yields : ℕ → ℕ → Walk → Tells (Answer false)
 yields b e w = read (calls.item (hands (gives (item b e tt)) w))
 
@@ -118,6 +122,9 @@ ended w = read (calls.item (ends w))
 
 abbrev fails : {l : Bool} → ℕ → List ℕ → Walk → Tells (Answer l)
 fails n vs w = read (calls.item (hands (refused n vs) w))
+
+abbrev raw : {l : Bool} → EntryIn l → Walk → Tells (Answer l)
+raw e w = read (calls.raw (hands (gives (record { entry = e; padded = false })) w))
 
 abbrev done : {A : Type 0} → Tells A
 done = marking (gives tt)
@@ -166,8 +173,8 @@ raw-again : along (ranges based)
     (reads calls.nextRaw ∷ sets 4 ∷ converts (BaseAddress 0x1000) ∷ returns 4 ∷ reads calls.nextRaw
     ∷ converts (OffsetPair 1 2) ∷ [])
     (walkAt 0 0 0)
-    ≡ read (calls.raw (hands (gives (BaseAddress 0x1000)) (walkAt 5 0 1))) ∷ done ∷ read (calls.converted (nothing (walkAt 5 0x1000 1))) ∷ done
-    ∷ read (calls.raw (hands (gives (OffsetPair 1 2)) (walkAt 8 0 2))) ∷ read (calls.converted (comes (gives (item 1 2 tt)) (walkAt 8 0 2))) ∷ []
+    ≡ raw (BaseAddress 0x1000) (walkAt 5 0 1) ∷ done ∷ read (calls.converted (nothing (walkAt 5 0x1000 1))) ∷ done
+    ∷ raw (OffsetPair 1 2) (walkAt 8 0 2) ∷ read (calls.converted (comes (gives (item 1 2 tt)) (walkAt 8 0 2))) ∷ []
 unfolding along
 raw-again = refl
 
@@ -203,7 +210,7 @@ split-again : along
     (0x03 ∷ 0x00 ∷ 0x08 ∷ 0x00 ∷ 0x00 ∷ 0x00 ∷ 0x01 ∷ 0x00 ∷ 0x50 ∷ 0x03 ∷ 0x01 ∷ 0x04 ∷ 0x00 ∷ 0x00 ∷ 0x00 ∷ 0x02 ∷ 0x00 ∷ 0x91 ∷ 0x7c ∷ 0x00 ∷ []))
     (reads calls.nextRaw ∷ sets 6 ∷ nexts ∷ nexts ∷ returns 6 ∷ nexts ∷ [])
     (walkAt 0 0 0)
-    ≡ read (calls.raw (hands (gives (loc.StartxLength (record { 0 = 0 }) 8 (expression 8 1))) (walkAt 9 0 1))) ∷ done ∷ locates 0x20 0x24 (expression 17 2) (walkAt 19 0 2) ∷ ended (walkAt 20 0 3) ∷ done
+    ≡ raw (loc.StartxLength (record { 0 = 0 }) 8 (expression 8 1)) (walkAt 9 0 1) ∷ done ∷ locates 0x20 0x24 (expression 17 2) (walkAt 19 0 2) ∷ ended (walkAt 20 0 3) ∷ done
     ∷ locates 0x20 0x24 (expression 17 2) (walkAt 19 0 2) ∷ []
 unfolding along
 split-again = refl
