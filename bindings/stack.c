@@ -1,5 +1,5 @@
-/* How much stack the calls over coverages take: each is made on a stack of its own that was filled with one byte, and what was
- * written there is held to what the header says. With -v every figure is printed. */
+/* How much stack the calls over coverages and raw entries take: each is made on a stack of its own that was filled with one byte,
+ * and what was written there is held to what the header says. With -v every figure is printed. */
 #define _XOPEN_SOURCE 700
 #include "yeltzarun.h"
 #include <stdio.h>
@@ -22,6 +22,11 @@ static yz_bounds begins, ends;
 static const yz_encoding unit = {5, 8, false, 0};
 static yz_count got;
 static bool canonical;
+static uint8_t entry[32];
+static yz_encoding written = {5, 8, false, 0};
+static yz_walk walk;
+static yz_raw_range raw_range;
+static yz_raw_location raw_location;
 
 #define RANGES ranges, ranges_len, NULL, 0, 0, unit
 #define LOCATIONS locations, locations_len, NULL, 0, 0, unit, YZ_FILE_MAIN
@@ -36,6 +41,8 @@ static void to_sheet(void) { MAKE(got = yz_sheet(YZ_LIMIT, &begins, &ends, sheet
 static void from_sheet(void) { MAKE(got = yz_coverage_from_sheet(sheet, sheet_len, &begins, &ends)); }
 static void to_canonical(void) { MAKE(got = yz_canonical(YZ_LIMIT, &begins, &ends, output, sizeof output)); }
 static void is_canonical(void) { MAKE(canonical = yz_is_canonical(output, output_len)); }
+static void range_next_raw(void) { MAKE(raw_range = yz_range_next_raw(entry, sizeof entry, written, &walk)); }
+static void location_next_raw(void) { MAKE(raw_location = yz_location_next_raw(entry, sizeof entry, written, &walk)); }
 
 static long used(void (*call)(void)) {
     size_t i = 0;
@@ -92,6 +99,21 @@ static void make_lists(size_t count, int order) {
     locations_len = (size_t)(l - locations);
 }
 
+/* A raw call on an entry of each kind, split and of both layouts, and of one that is none; its numbers are padded. */
+static void raw_entries(const char *name, void (*call)(void)) {
+    uint8_t kind;
+    size_t i;
+    for (kind = 0; kind < 10; kind++)
+        for (written.version = 4; written.version < 6; written.version++) {
+            entry[0] = kind;
+            for (i = 1; i < sizeof entry; i++)
+                entry[i] = i % 2 == 1 ? 0x81 : 0;
+            memset(&walk, 0, sizeof walk);
+            walk.split = 1;
+            below(name, 1, call, YZ_STACK_OTHERS);
+        }
+}
+
 int main(int argc, char **argv) {
     static const size_t counts[] = {1, 32, 33, 128, 129, YZ_LIMIT, YZ_LIMIT + 1};
     size_t c;
@@ -118,6 +140,8 @@ int main(int argc, char **argv) {
     below("yz_canonical", YZ_LIMIT, to_canonical, YZ_STACK_OTHERS);
     output_len = got.count;
     below("yz_is_canonical", YZ_LIMIT, is_canonical, YZ_STACK_OTHERS);
+    raw_entries("yz_range_next_raw", range_next_raw);
+    raw_entries("yz_location_next_raw", location_next_raw);
     printf("stack: %d passed, %d failed\n", passed, failed);
     return failed != 0;
 }

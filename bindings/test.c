@@ -56,14 +56,15 @@ FIELDS_OF(number, a.number)
 FIELDS_OF(count, a.count)
 FIELDS_OF(place, a.next)
 FIELDS_OF(read, a.next, a.number)
+FIELDS_OF(leb128, a.next, a.number, a.length, a.padded)
 FIELDS_OF(split_part, a.next, PART(a.part))
 FIELDS_OF(unit_length, a.next, a.length, a.dwarf64)
 FIELDS_OF(table_header, ENCODING(a.encoding), a.offset, a.length, PART(a.entries))
 FIELDS_OF(lists_header_answer, ENCODING(a.encoding), a.offset_entry_count, a.header_size, PART(a.rest))
 FIELDS_OF(range, a.begin, a.end)
 FIELDS_OF(location, a.begin, a.end, PART(a.expression))
-FIELDS_OF(raw_range, a.entry.kind, a.entry.first, a.entry.second)
-FIELDS_OF(raw_location, a.entry.kind, a.entry.first, a.entry.second, PART(a.entry.expression))
+FIELDS_OF(raw_range, a.entry.kind, a.entry.first, a.entry.second, a.padded)
+FIELDS_OF(raw_location, a.entry.kind, a.entry.first, a.entry.second, PART(a.entry.expression), a.padded)
 
 static void same(fields got, const uint64_t *expected, int line, const char *what) {
     bool all = memcmp(got.at, expected, sizeof got.at) == 0;
@@ -213,6 +214,11 @@ static void layout(void) {
     ANSWER(read, 32);
     FIELD(read, next, 16);
     FIELD(read, number, 24);
+    ANSWER(leb128, 48);
+    FIELD(leb128, next, 16);
+    FIELD(leb128, number, 24);
+    FIELD(leb128, length, 32);
+    FIELD(leb128, padded, 40);
     ANSWER(split_part, 40);
     FIELD(split_part, next, 16);
     FIELD(split_part, part, 24);
@@ -237,10 +243,12 @@ static void layout(void) {
     FIELD(location, begin, 16);
     FIELD(location, end, 24);
     FIELD(location, expression, 32);
-    ANSWER(raw_range, 40);
+    ANSWER(raw_range, 48);
     FIELD(raw_range, entry, 16);
-    ANSWER(raw_location, 56);
+    FIELD(raw_range, padded, 40);
+    ANSWER(raw_location, 64);
     FIELD(raw_location, entry, 16);
+    FIELD(raw_location, padded, 56);
 }
 
 static void test_version(void) {
@@ -256,16 +264,76 @@ static void test_version(void) {
 
 #define READ(call, ...) IS(read, call, __VA_ARGS__)
 
+/* Bytes that are put together; an expression may have 0x8000 of them. */
+static uint8_t made[0x8100];
+static size_t made_len;
+
+static void put(uint8_t byte) { made[made_len++] = byte; }
+
+/* A LEB128 number: its shortest form, made longer by so many bytes. */
+static void put_uleb128(uint64_t number, unsigned padding) {
+    for (; number > 0x7f; number >>= 7)
+        put((uint8_t)(number | 0x80));
+    put((uint8_t)(padding > 0 ? number | 0x80 : number));
+    for (; padding > 0; padding--)
+        put(padding > 1 ? 0x80 : 0);
+}
+
+#define LEB128(call, ...) IS(leb128, call, __VA_ARGS__)
+
+/* Of each length from 1 to 10 the smallest number and the largest, as they are and padded to every length that is read. The byte
+ * before them and the one behind are no part of them. */
+static void lengths_of_numbers(void) {
+    unsigned bytes, padding, i;
+    for (bytes = 1; bytes <= 10; bytes++) {
+        const uint64_t smallest = bytes > 1 ? UINT64_C(1) << 7 * (bytes - 1) : 0;
+        const uint64_t largest = bytes < 10 ? (UINT64_C(1) << 7 * bytes) - 1 : MAX;
+        for (i = 0; i < 2; i++) {
+            const uint64_t number = i == 0 ? smallest : largest;
+            for (padding = 0; padding <= 10 - bytes; padding++) {
+                const unsigned length = bytes + padding;
+                made_len = 0;
+                put(0x80);
+                put_uleb128(number, padding);
+                put(0);
+                LEB128(yz_uleb128(made, made_len, 1), DONE, 1 + length, number, length, padding > 0);
+                LEB128(yz_uleb128(made, 1 + length, 1), DONE, 1 + length, number, length, padding > 0);
+                LEB128(yz_uleb128(made, length, 1), CUT_SHORT);
+            }
+            /* Eleven bytes. */
+            made_len = 0;
+            put_uleb128(number, padding);
+            LEB128(yz_uleb128(made, made_len, 0), REFUSED(YZ_BAD_UNSIGNED_LEB128, 0));
+        }
+    }
+}
+
 static void test_uleb128(void) {
-    READ(yz_uleb128(S("\xe5\x8e\x26\xff"), 0), DONE, 3, 624485);
-    READ(yz_uleb128(S("\xe5\x8e\x26\xff"), 2), DONE, 3, 0x26);
-    READ(yz_uleb128(S("\x80\0"), 0), DONE, 2, 0);
-    READ(yz_uleb128(S(NINE "\x01"), 0), DONE, 10, UINT64_C(1) << 63);
-    READ(yz_uleb128(S(NINE "\0"), 0), DONE, 10, 0);
-    READ(yz_uleb128(S(NINE "\x02"), 0), REFUSED(YZ_BAD_UNSIGNED_LEB128, 0));
-    READ(yz_uleb128(S(NINE), 0), CUT_SHORT);
-    READ(yz_uleb128(NO_BYTES, 0), CUT_SHORT);
-    READ(yz_uleb128(S("\x01"), MAX), CUT_SHORT);
+    LEB128(yz_uleb128(S("\xe5\x8e\x26\xff"), 0), DONE, 3, 624485, 3, 0);
+    LEB128(yz_uleb128(S("\xe5\x8e\x26\xff"), 2), DONE, 3, 0x26, 1, 0);
+    LEB128(yz_uleb128(S("\0"), 0), DONE, 1, 0, 1, 0);
+    LEB128(yz_uleb128(S("\x7f"), 0), DONE, 1, 0x7f, 1, 0);
+    LEB128(yz_uleb128(S("\x80\x01"), 0), DONE, 2, 0x80, 2, 0);
+    LEB128(yz_uleb128(S("\x80\0"), 0), DONE, 2, 0, 2, 1);
+    LEB128(yz_uleb128(S("\x82\0"), 0), DONE, 2, 2, 2, 1);
+    LEB128(yz_uleb128(S("\xff\x7f"), 0), DONE, 2, 0x3fff, 2, 0);
+    LEB128(yz_uleb128(S("\x81\x80\0"), 0), DONE, 3, 1, 3, 1);
+    LEB128(yz_uleb128(S("\x80\x81\0"), 0), DONE, 3, 0x80, 3, 1);
+    LEB128(yz_uleb128(S(NINE "\x01"), 0), DONE, 10, UINT64_C(1) << 63, 10, 0);
+    LEB128(yz_uleb128(S(NINE "\0"), 0), DONE, 10, 0, 10, 1);
+    LEB128(yz_uleb128(S("\xff\xff\xff\xff\xff\xff\xff\xff\xff\x01"), 0), DONE, 10, MAX, 10, 0);
+    LEB128(yz_uleb128(S("\xff\xff\xff\xff\xff\xff\xff\xff\xff\0"), 0), DONE, 10, MAX >> 1, 10, 1);
+    LEB128(yz_uleb128(S("\xff\xff\xff\xff\xff\xff\xff\xff\x7f"), 0), DONE, 9, MAX >> 1, 9, 0);
+    LEB128(yz_uleb128(S(NINE "\x02"), 0), REFUSED(YZ_BAD_UNSIGNED_LEB128, 0));
+    LEB128(yz_uleb128(S(NINE), 0), CUT_SHORT);
+    LEB128(yz_uleb128(S("\x80"), 0), CUT_SHORT);
+    LEB128(yz_uleb128(S("\x80\0"), 1), DONE, 2, 0, 1, 0);
+    LEB128(yz_uleb128(S("\x80\0"), 2), CUT_SHORT);
+    LEB128(yz_uleb128(S("\x80\0"), MAX), CUT_SHORT);
+    LEB128(yz_uleb128(S("\x01"), MAX), CUT_SHORT);
+    LEB128(yz_uleb128(NO_BYTES, 0), CUT_SHORT);
+    LEB128(yz_uleb128(NO_BYTES, MAX), CUT_SHORT);
+    lengths_of_numbers();
 }
 
 static void test_read_u8(void) {
@@ -825,8 +893,211 @@ static void test_range_next(void) {
     ranges_counted();
 }
 
+/* ---- Padded numbers of entries ---- */
+
+/* The operands of a bare pair and of kinds, as docs/SCOPE.md has them: n is a LEB128 number, a an address, l a length, and x an
+ * expression, which begins with its length. From version 5 on these two lengths are LEB128; before, l has four bytes and that of
+ * x two. */
+static const char *const range_operands[] = {"aa", "n", "nn", "nn", "nn", "a", "aa", "an"};
+static const char *const location_operands[] = {"aax", "n", "nnx", "nlx", "nnx", "x", "a", "aax", "anx"};
+
+/* What is written into an entry: two numbers, a length, and how many bytes are added to a number that is padded. Where a length
+ * is not LEB128, this one is its first byte, and 00 the others. */
+typedef struct operands {
+    uint64_t numbers[2], length;
+    unsigned padding;
+} operands;
+static const operands written[] = {
+    {{1, 2}, 1, 1}, {{0, 0x7f}, 0, 1}, {{0x7f, 0}, 2, 9}, {{0x80, 0x3fff}, 0x80, 1}, {{0x4000, MAX >> 1}, 0x80, 1},
+};
+#define WRITTEN (sizeof written / sizeof *written)
+
+/* Whether an operand of an entry, or the length that it begins with, is LEB128. */
+static bool is_leb128(char operand, uint16_t version) { return operand == 'n' || (operand != 'a' && version >= 5); }
+
+/* Bytes that are no LEB128 number, two that are given and then 00; the number that they are. */
+static uint64_t put_fixed(uint8_t first, uint8_t second, size_t width, bool big_endian) {
+    uint64_t number = 0;
+    size_t i;
+    for (i = 0; i < width; i++) {
+        const uint64_t byte = i == 0 ? first : i == 1 ? second : 0;
+        put((uint8_t)byte);
+        number |= byte << 8 * (big_endian ? width - 1 - i : i);
+    }
+    return number;
+}
+
+/* An entry at place 2, or for kind 0 a bare pair, and what a raw call answers to it. Its LEB128 numbers are padded as the bits of
+ * `which` say, the first by the lowest. Other bytes before it, in it and, two of them, behind it are like padded numbers. */
+static fields make_entry(bool locations, uint64_t kind, yz_encoding encoding, const operands *given, unsigned which) {
+    fields answer = fields_of(YZ_DONE, YZ_NO_REFUSAL, 0);
+    const char *operand = (locations ? location_operands : range_operands)[kind];
+    const bool big_endian = encoding.big_endian != 0;
+    size_t n = 0;
+    answer.at[3] = kind;
+    answer.at[locations ? 8 : 6] = which != 0;
+    made_len = 0;
+    put(0x80);
+    put(0);
+    if (kind != 0) put((uint8_t)kind);
+    for (; *operand != 0; operand++) {
+        uint64_t number;
+        if (is_leb128(*operand, encoding.version)) {
+            number = *operand == 'x' ? given->length : given->numbers[n];
+            put_uleb128(number, which % 2 == 1 ? given->padding : 0);
+            which /= 2;
+        } else if (*operand == 'a') {
+            /* A bare pair begins like kind 4 with a padded number. */
+            const bool first = kind == 0 && n == 0;
+            number = put_fixed(first ? 4 : 0x80, first ? 0x80 : 0, encoding.address_size, big_endian);
+        } else {
+            number = put_fixed((uint8_t)given->length, 0, *operand == 'x' ? 2 : 4, big_endian);
+        }
+        if (*operand != 'x') {
+            answer.at[4 + n++] = number;
+            continue;
+        }
+        answer.at[6] = made_len;
+        answer.at[7] = number;
+        memset(made + made_len, 0, number);
+        if (number > 0) made[made_len] = 0x80;
+        made_len += number;
+    }
+    made[made_len] = 0x80;
+    made[made_len + 1] = 0;
+    return answer;
+}
+
+/* The same for a base selection, which stands among bare pairs. */
+static fields make_base(bool locations, yz_encoding encoding) {
+    fields answer = fields_of(YZ_DONE, YZ_NO_REFUSAL, 0);
+    size_t i;
+    made_len = 0;
+    put(0x80);
+    put(0);
+    for (i = 0; i < encoding.address_size; i++)
+        put(0xff);
+    answer.at[3] = locations ? (uint64_t)YZ_LLE_BASE_ADDRESS : (uint64_t)YZ_RLE_BASE_ADDRESS;
+    answer.at[4] = put_fixed(0x80, 0, encoding.address_size, encoding.big_endian != 0);
+    made[made_len] = 0x80;
+    made[made_len + 1] = 0;
+    return answer;
+}
+
+/* The next raw entry of the bytes that were made, cut to a length. */
+static fields raw_of_made(bool locations, yz_encoding encoding, size_t len) {
+    if (locations) return of_raw_location(yz_location_next_raw(made, len, encoding, &walk));
+    return of_raw_range(yz_range_next_raw(made, len, encoding, &walk));
+}
+
+/* Whether the entry at place 2 is answered as it must be, whole, with bytes behind it and cut short. */
+static bool entry_is(bool locations, uint64_t split, yz_encoding encoding, fields answer) {
+    const fields end = fields_of(YZ_END, YZ_NO_REFUSAL, 0), cut = fields_of(YZ_REFUSED, YZ_UNEXPECTED_EOF, 0);
+    size_t len;
+    for (len = made_len; len <= made_len + 2; len++) {
+        fields got;
+        walk_from(2, 7, split);
+        got = raw_of_made(locations, encoding, len);
+        if (memcmp(&got, &answer, sizeof got) != 0 || !walk_is(made_len, 7, 1, split)) return false;
+    }
+    for (len = 3; len < made_len; len += 1 + len / 64) {
+        fields got, then;
+        walk_from(2, 7, split);
+        got = raw_of_made(locations, encoding, len);
+        if (memcmp(&got, &cut, sizeof got) != 0 || !walk_is(len, 7, 0, split)) return false;
+        then = raw_of_made(locations, encoding, len);
+        if (memcmp(&then, &end, sizeof then) != 0 || !walk_is(len, 7, 0, split)) return false;
+    }
+    return true;
+}
+
+/* Every kind of a version's entries, with none of its LEB128 numbers padded, each of them and any of them, in both orders and of
+ * all sizes; a check for each kind, order and size. */
+static void entries_padded(bool locations, uint64_t split, uint16_t version) {
+    static const uint8_t sizes[] = {1, 2, 3, 4, 8};
+    const bool kinds = version >= 5 || (locations && split != 0);
+    const uint64_t last = !kinds ? 0 : locations ? 8 : 7;
+    uint64_t kind;
+    size_t i, j;
+    unsigned big_endian, which;
+    for (i = 0; i < sizeof sizes; i++)
+        for (big_endian = 0; big_endian < 2; big_endian++) {
+            const yz_encoding encoding = encoded(version, sizes[i], false, big_endian);
+            if (!kinds) CHECK(entry_is(locations, split, encoding, make_base(locations, encoding)));
+            for (kind = kinds; kind <= last; kind++) {
+                const char *operand = (locations ? location_operands : range_operands)[kind];
+                unsigned choices = 1;
+                bool all = true;
+                for (; *operand != 0; operand++)
+                    choices <<= is_leb128(*operand, version);
+                for (j = 0; j < WRITTEN; j++)
+                    for (which = 0; which < choices; which++) {
+                        const fields answer = make_entry(locations, kind, encoding, &written[j], which);
+                        if (entry_is(locations, split, encoding, answer)) continue;
+                        printf("test.c: version %u, split %u, size %u, big endian %u, kind %u, operands %u, padded %u: not so\n",
+                               version, split != 0, sizes[i], big_endian, (unsigned)kind, (unsigned)j, which);
+                        all = false;
+                    }
+                check(all, __LINE__, "every choice of padded numbers");
+            }
+        }
+}
+
 #define RAW(list, encoding, at, entries, ...)                                                                        \
     STEP(raw_range, yz_range_next_raw(list, encoding, &walk), at, 7, entries, __VA_ARGS__)
+
+static void padded_ranges(void) {
+    /* Entries whose first number is padded, or the second, or none. */
+#define LIST S("\x04\x01\x82\0\0")
+    ranges_from(0, 7);
+    RAW(LIST, little(5, 4), 4, 1, DONE, YZ_RLE_OFFSET_PAIR, 1, 2, 1);
+    RAW(LIST, little(5, 4), 5, 2, END);
+    RAW(LIST, little(5, 4), 5, 2, END);
+#undef LIST
+    ranges_from(0, 7);
+    RAW(S("\x04\x01\x02\0"), little(5, 4), 3, 1, DONE, YZ_RLE_OFFSET_PAIR, 1, 2, 0);
+    ranges_from(0, 7);
+    RAW(S("\x04\x81\0\x02"), little(5, 4), 4, 1, DONE, YZ_RLE_OFFSET_PAIR, 1, 2, 1);
+    RAW(S("\x04\x81\0\x02"), little(5, 4), 4, 1, END);
+    ranges_from(0, 7);
+    RAW(S("\x01\x80\0\0"), little(5, 4), 3, 1, DONE, YZ_RLE_BASE_ADDRESSX, 0, 0, 1);
+    ranges_from(0, 7);
+    RAW(S("\x07\x10\0\0\0\x90\0\0"), little(5, 4), 7, 1, DONE, YZ_RLE_START_LENGTH, 0x10, 0x10, 1);
+    ranges_from(0, 7);
+    RAW(S("\x06\x10\0\0\0\x20\0\0\0\0"), little(5, 4), 9, 1, DONE, YZ_RLE_START_END, 0x10, 0x20, 0);
+    ranges_from(0, 7);
+    RAW(S("\x01\0\x02\0\0\0\0\0"), little(4, 2), 4, 1, DONE, YZ_RLE_ADDRESS_OR_OFFSET_PAIR, 1, 2, 0);
+    /* Ten bytes. */
+    ranges_from(0, 7);
+    RAW(S("\x04" NINE "\x01" NINE "\x01"), little(5, 4), 21, 1, DONE, YZ_RLE_OFFSET_PAIR, UINT64_C(1) << 63,
+        UINT64_C(1) << 63, 0);
+    ranges_from(0, 7);
+    RAW(S("\x04" NINE "\x01" NINE "\0"), little(5, 4), 21, 1, DONE, YZ_RLE_OFFSET_PAIR, UINT64_C(1) << 63, 0, 1);
+    /* Refused, and at the end, whatever was read before. */
+    ranges_from(0, 7);
+    RAW(S("\x04\x80\0"), little(5, 4), 3, 0, CUT_SHORT);
+    ranges_from(0, 7);
+    RAW(S("\x04\x80\0" NINE "\x02"), little(5, 4), 13, 0, REFUSED(YZ_BAD_UNSIGNED_LEB128, 0));
+    ranges_from(0, 7);
+    RAW(S("\x01\x80\0"), little(5, 5), 3, 0, BAD_SIZE(5));
+    ranges_from(MAX, 7);
+    RAW(S("\x01\x80\0"), little(5, 4), MAX, 0, END);
+    /* Each entry by its own numbers. */
+#define LIST S("\x01\x80\0\x01\0\x02\x80\0\x81\0\x03\0\x01\x04\0\x81\0\x08\x80\0")
+    ranges_from(0, 7);
+    RAW(LIST, little(5, 4), 3, 1, DONE, YZ_RLE_BASE_ADDRESSX, 0, 0, 1);
+    RAW(LIST, little(5, 4), 5, 2, DONE, YZ_RLE_BASE_ADDRESSX, 0, 0, 0);
+    RAW(LIST, little(5, 4), 10, 3, DONE, YZ_RLE_STARTX_ENDX, 0, 1, 1);
+    RAW(LIST, little(5, 4), 13, 4, DONE, YZ_RLE_STARTX_LENGTH, 0, 1, 0);
+    RAW(LIST, little(5, 4), 17, 5, DONE, YZ_RLE_OFFSET_PAIR, 0, 1, 1);
+    RAW(LIST, little(5, 4), 20, 5, REFUSED(YZ_UNKNOWN_RANGE_LISTS_ENTRY, 8));
+    RAW(LIST, little(5, 4), 20, 5, END);
+#undef LIST
+    entries_padded(false, OLD_WORD, 2);
+    entries_padded(false, OLD_WORD, 4);
+    entries_padded(false, OLD_WORD, 5);
+    entries_padded(false, OLD_WORD, 6);
+}
 
 static void test_range_next_raw(void) {
     ranges_from(0, 7);
@@ -893,6 +1164,7 @@ static void test_range_next_raw(void) {
     ranges_from(99, 7);
     walk.entries = 7;
     RAW(S("\0"), little(5, 4), 99, 7, END);
+    padded_ranges();
 }
 
 static yz_range_entry range_entry(uint64_t kind, uint64_t first, uint64_t second) {
@@ -965,6 +1237,29 @@ static void test_range_convert_raw(void) {
 #undef LIST
 #undef READ_ONE
 #undef CONVERT_ONE
+    /* Entries with padded numbers come to what they come to without. */
+#define LIST S("\x01\x81\0\x04\x81\0\x82\x80\0\x02\x80\0\x81\0\x03\x81\0\x85\0\x07\x05\0\0\0\x87\0\0")
+#define PADDED(at, base_address, entries, ...)                                                                       \
+    do {                                                                                                             \
+        const yz_raw_range raw = yz_range_next_raw(LIST, little(5, 4), &walk);                                       \
+        CHECK(raw.result == YZ_DONE && raw.padded == 1);                                                             \
+        STEP(range, yz_range_convert_raw(TABLE, 8, little(5, 4), raw.entry, &walk), at, base_address, entries,       \
+             __VA_ARGS__);                                                                                           \
+    } while (0)
+    ranges_from(0, 0x100);
+    PADDED(3, 0x20, 1, COMES_TO_NOTHING);
+    PADDED(9, 0x20, 2, DONE, 0x21, 0x22);
+    PADDED(14, 0x20, 3, DONE, 0x10, 0x20);
+    PADDED(19, 0x20, 4, DONE, 0x20, 0x25);
+    PADDED(26, 0x20, 5, DONE, 5, 12);
+    ranges_from(0, 0x100);
+    NEXT(LIST, TABLE, little(5, 4), 9, 0x20, 2, DONE, 0x21, 0x22);
+    NEXT(LIST, TABLE, little(5, 4), 14, 0x20, 3, DONE, 0x10, 0x20);
+    NEXT(LIST, TABLE, little(5, 4), 19, 0x20, 4, DONE, 0x20, 0x25);
+    NEXT(LIST, TABLE, little(5, 4), 26, 0x20, 5, DONE, 5, 12);
+    NEXT(LIST, TABLE, little(5, 4), 27, 0x20, 6, END);
+#undef LIST
+#undef PADDED
 }
 
 #define LOOKUP(list, encoding, offset, address, ...)                                                                 \
@@ -1155,6 +1450,67 @@ static void test_location_next(void) {
 #define LRAW(list, encoding, at, entries, ...)                                                                       \
     STEP(raw_location, yz_location_next_raw(list, encoding, &walk), at, 7, entries, __VA_ARGS__)
 
+static void padded_locations(void) {
+#define LIST S("\x05\x81\0\x50\0")
+    walk_from(0, 7, 0);
+    LRAW(LIST, little(5, 4), 4, 1, DONE, YZ_LLE_DEFAULT_LOCATION, 0, 0, 3, 1, 1);
+    LRAW(LIST, little(5, 4), 5, 2, END);
+    LRAW(LIST, little(5, 4), 5, 2, END);
+#undef LIST
+    walk_from(0, 7, 0);
+    LRAW(S("\x05\x01\x50\0"), little(5, 4), 3, 1, DONE, YZ_LLE_DEFAULT_LOCATION, 0, 0, 2, 1, 0);
+    /* The length of kind 3, and in version 4 four bytes for it and two for an expression's. */
+    walk_from(0, 7, 0);
+    LRAW(S("\x03\0\x88\0\x01\x50\0"), little(5, 4), 6, 1, DONE, YZ_LLE_STARTX_LENGTH, 0, 8, 5, 1, 1);
+    walk_from(0, 7, 1);
+    LRAW(S("\x03\0\x88\0\x01\x50\0"), little(5, 4), 6, 1, DONE, YZ_LLE_STARTX_LENGTH, 0, 8, 5, 1, 1);
+    walk_from(0, 7, 1);
+    LRAW(S("\x03\0\x08\0\0\0\x01\0\x50\0"), little(4, 4), 9, 1, DONE, YZ_LLE_STARTX_LENGTH, 0, 8, 8, 1, 0);
+    walk_from(0, 7, 1);
+    LRAW(S("\x03\x80\0\x08\0\0\0\x01\0\x50\0"), little(4, 4), 10, 1, DONE, YZ_LLE_STARTX_LENGTH, 0, 8, 9, 1, 1);
+    walk_from(0, 7, 1);
+    LRAW(S("\x03\0\x80\0\0\0\0\0"), little(4, 4), 8, 1, DONE, YZ_LLE_STARTX_LENGTH, 0, 0x80, 8, 0, 0);
+    walk_from(0, 7, 1);
+    LRAW(S("\x03\0\x80\0\0\0\0\0"), big(4, 4), 8, 1, DONE, YZ_LLE_STARTX_LENGTH, 0, 0x80000000, 8, 0, 0);
+    walk_from(0, 7, 1);
+    LRAW(S("\x04\x81\0\x82\0\x01\0\x50\0"), little(4, 4), 8, 1, DONE, YZ_LLE_OFFSET_PAIR, 1, 2, 7, 1, 1);
+    walk_from(0, 7, 1);
+    LRAW(S("\x08\x10\x81\0\0\0"), little(4, 1), 6, 1, DONE, YZ_LLE_START_LENGTH, 0x10, 1, 6, 0, 1);
+    walk_from(0, 7, 0);
+    LRAW(S("\x80\0\x81\0\0\0"), little(4, 2), 6, 1, DONE, YZ_LLE_ADDRESS_OR_OFFSET_PAIR, 0x80, 0x81, 6, 0, 0);
+    /* Refused, and at the end, whatever was read before. */
+    walk_from(0, 7, 0);
+    LRAW(S("\x05\x82\0\x50"), little(5, 4), 4, 0, CUT_SHORT);
+    walk_from(0, 7, 1);
+    LRAW(S("\x02\x80\0\x80\0\x01"), little(4, 4), 6, 0, CUT_SHORT);
+    walk_from(0, 7, 0);
+    LRAW(S("\x02\x80\0\x80\0" NINE "\x02"), little(5, 4), 15, 0, REFUSED(YZ_BAD_UNSIGNED_LEB128, 0));
+    walk_from(0, 7, 1);
+    LRAW(S("\x01\x80\0"), little(4, 5), 3, 0, BAD_SIZE(5));
+    walk_from(MAX, 7, 0);
+    LRAW(S("\x01\x80\0"), little(5, 4), MAX, 0, END);
+    /* Each entry by its own numbers. */
+#define LIST S("\x05\x80\0\x05\0\x01\x80\0\x06\x80\x08\x10\x81\0\0\x04\0\x01\x80\0\x09\x80\0")
+    walk_from(0, 7, 0);
+    LRAW(LIST, little(5, 1), 3, 1, DONE, YZ_LLE_DEFAULT_LOCATION, 0, 0, 3, 0, 1);
+    LRAW(LIST, little(5, 1), 5, 2, DONE, YZ_LLE_DEFAULT_LOCATION, 0, 0, 5, 0, 0);
+    LRAW(LIST, little(5, 1), 8, 3, DONE, YZ_LLE_BASE_ADDRESSX, 0, 0, 0, 0, 1);
+    LRAW(LIST, little(5, 1), 10, 4, DONE, YZ_LLE_BASE_ADDRESS, 0x80, 0, 0, 0, 0);
+    LRAW(LIST, little(5, 1), 15, 5, DONE, YZ_LLE_START_LENGTH, 0x10, 1, 15, 0, 1);
+    LRAW(LIST, little(5, 1), 20, 6, DONE, YZ_LLE_OFFSET_PAIR, 0, 1, 20, 0, 1);
+    LRAW(LIST, little(5, 1), 23, 6, REFUSED(YZ_UNKNOWN_LOC_LISTS_ENTRY, 9));
+    LRAW(LIST, little(5, 1), 23, 6, END);
+#undef LIST
+    entries_padded(true, 0, 2);
+    entries_padded(true, 0, 4);
+    entries_padded(true, 0, 5);
+    entries_padded(true, 0, 6);
+    entries_padded(true, 1, 2);
+    entries_padded(true, 1, 4);
+    entries_padded(true, 1, 5);
+    entries_padded(true, OLD_WORD, 6);
+}
+
 static void test_location_next_raw(void) {
     walk_from(0, 7, 0);
 #define LIST                                                                                                         \
@@ -1224,6 +1580,7 @@ static void test_location_next_raw(void) {
     walk_from(99, 7, 0);
     walk.entries = 7;
     LRAW(S("\0"), little(5, 4), 99, 7, END);
+    padded_locations();
 }
 
 static yz_location_entry location_entry(uint64_t kind, uint64_t first, uint64_t second, uint64_t offset, uint64_t length) {
@@ -1303,6 +1660,45 @@ static void test_location_convert_raw(void) {
 #undef LIST
 #undef READ_ONE
 #undef CONVERT_ONE
+    /* Entries with padded numbers come to what they come to without. */
+#define PADDED(version, at, base_address, entries, ...)                                                              \
+    do {                                                                                                             \
+        const yz_raw_location raw = yz_location_next_raw(LIST, little(version, 4), &walk);                           \
+        CHECK(raw.result == YZ_DONE && raw.padded == 1);                                                             \
+        STEP(location, yz_location_convert_raw(TABLE, 8, little(version, 4), raw.entry, &walk), at, base_address,    \
+             entries, __VA_ARGS__);                                                                                  \
+    } while (0)
+#define LIST                                                                                                         \
+    S("\x01\x81\0\x04\x81\0\x82\x80\0\x81\0\x50\x02\x80\0\x81\0\x80\0\x03\x81\0\x85\0\x80\0\x05\x81\0\x51"             \
+      "\x07\x05\0\0\0\x07\0\0\0\x80\0\x08\x05\0\0\0\x87\0\x80\0\0")
+    walk_from(0, 0x100, 0);
+    PADDED(5, 3, 0x20, 1, COMES_TO_NOTHING);
+    PADDED(5, 12, 0x20, 2, DONE, 0x21, 0x22, 11, 1);
+    PADDED(5, 19, 0x20, 3, DONE, 0x10, 0x20, 19, 0);
+    PADDED(5, 26, 0x20, 4, DONE, 0x20, 0x25, 26, 0);
+    PADDED(5, 30, 0x20, 5, DONE, 0, MAX, 29, 1);
+    PADDED(5, 41, 0x20, 6, DONE, 5, 7, 41, 0);
+    PADDED(5, 50, 0x20, 7, DONE, 5, 12, 50, 0);
+    walk_from(0, 0x100, 0);
+    LNEXT(LIST, TABLE, little(5, 4), 12, 0x20, 2, DONE, 0x21, 0x22, 11, 1);
+    LNEXT(LIST, TABLE, little(5, 4), 19, 0x20, 3, DONE, 0x10, 0x20, 19, 0);
+    LNEXT(LIST, TABLE, little(5, 4), 26, 0x20, 4, DONE, 0x20, 0x25, 26, 0);
+    LNEXT(LIST, TABLE, little(5, 4), 30, 0x20, 5, DONE, 0, MAX, 29, 1);
+    LNEXT(LIST, TABLE, little(5, 4), 41, 0x20, 6, DONE, 5, 7, 41, 0);
+    LNEXT(LIST, TABLE, little(5, 4), 50, 0x20, 7, DONE, 5, 12, 50, 0);
+    LNEXT(LIST, TABLE, little(5, 4), 51, 0x20, 8, END);
+#undef LIST
+#define LIST S("\x01\x81\0\x03\x81\0\x05\0\0\0\0\0\x04\x81\0\x82\x80\0\x01\0\x50\0")
+    walk_from(0, 0x100, 1);
+    PADDED(4, 3, 0x20, 1, COMES_TO_NOTHING);
+    PADDED(4, 12, 0x20, 2, DONE, 0x20, 0x25, 12, 0);
+    PADDED(4, 21, 0x20, 3, DONE, 0x21, 0x22, 20, 1);
+    walk_from(0, 0x100, 1);
+    LNEXT(LIST, TABLE, little(4, 4), 12, 0x20, 2, DONE, 0x20, 0x25, 12, 0);
+    LNEXT(LIST, TABLE, little(4, 4), 21, 0x20, 3, DONE, 0x21, 0x22, 20, 1);
+    LNEXT(LIST, TABLE, little(4, 4), 22, 0x20, 4, END);
+#undef LIST
+#undef PADDED
 }
 
 static bool expression_is(const uint8_t *section, size_t section_len, yz_part in, uint64_t offset, uint64_t length) {

@@ -154,7 +154,7 @@ fn join(parts: &[&[u8]]) -> Vec<u8> {
 
 fn versions(c: &mut Checks) {
     c.same(version(), VERSION);
-    c.same(VERSION, 6);
+    c.same(VERSION, 7);
     c.same((LIMIT, SHEET_MAX, CANONICAL_MAX), (3000, 48_004, 57_001));
     c.same(MARKS, 8);
 }
@@ -199,6 +199,61 @@ fn uleb128(c: &mut Checks) {
     c.same(leb(&join(&[&NINE, &[2]])), (Err(Error::BadUnsignedLeb128), 10));
     c.same(leb(&NINE), (Err(EOF), 9));
     c.same(leb(&[]), (Err(EOF), 0));
+    let leb = |bytes: &[u8]| read(bytes, Little, |s| s.read_uleb128_with_length());
+    let is = |value, length, padded| Ok(Leb128 { value, length, padded });
+    c.same(leb(&[0xe5, 0x8e, 0x26, 0xff]), (is(624485, 3, false), 1));
+    c.same(leb(&[0x00]), (is(0, 1, false), 0));
+    c.same(leb(&[0x7f]), (is(0x7f, 1, false), 0));
+    c.same(leb(&[0x80, 0x01]), (is(0x80, 2, false), 0));
+    c.same(leb(&[0x80, 0x00]), (is(0, 2, true), 0));
+    c.same(leb(&[0x82, 0x00]), (is(2, 2, true), 0));
+    c.same(leb(&[0xff, 0x7f]), (is(0x3fff, 2, false), 0));
+    c.same(leb(&[0x81, 0x80, 0x00]), (is(1, 3, true), 0));
+    c.same(leb(&[0x80, 0x81, 0x00]), (is(0x80, 3, true), 0));
+    c.same(leb(&join(&[&NINE, &[1]])), (is(1 << 63, 10, false), 0));
+    c.same(leb(&join(&[&NINE, &[0]])), (is(0, 10, true), 0));
+    c.same(leb(&join(&[&[0xff; 9], &[1]])), (is(u64::MAX, 10, false), 0));
+    c.same(leb(&join(&[&[0xff; 9], &[0]])), (is(u64::MAX >> 1, 10, true), 0));
+    c.same(leb(&join(&[&[0xff; 8], &[0x7f]])), (is(u64::MAX >> 1, 9, false), 0));
+    c.same(leb(&join(&[&NINE, &[2]])), (Err(Error::BadUnsignedLeb128), 10));
+    c.same(leb(&NINE), (Err(EOF), 9));
+    c.same(leb(&[0x80]), (Err(EOF), 1));
+    c.same(leb(&[]), (Err(EOF), 0));
+    // Of each length from 1 to 10 the smallest number and the largest, as they are and padded to
+    // every length that is read, between bytes that are no part of them; then of eleven bytes.
+    let behind_one =
+        |bytes: &[u8]| read(bytes, Big, |s| s.skip(1).and_then(|_| s.read_uleb128_with_length()));
+    for bytes in 1..=10 {
+        let smallest = if bytes > 1 { 1 << (7 * (bytes - 1)) } else { 0 };
+        let largest = if bytes < 10 { (1 << (7 * bytes)) - 1 } else { u64::MAX };
+        for number in [smallest, largest] {
+            for padding in 0..=10 - bytes {
+                let length = bytes + padding;
+                let written = join(&[&[0x80], &leb128(number, padding), &[0]]);
+                let expected = is(number, length, padding > 0);
+                c.same(behind_one(&written), (expected, 1));
+                c.same(behind_one(&written[..1 + length]), (expected, 0));
+                c.same(behind_one(&written[..length]), (Err(EOF), length - 1));
+            }
+            let eleven = leb128(number, 11 - bytes);
+            c.same(leb(&eleven), (Err(Error::BadUnsignedLeb128), 11));
+        }
+    }
+}
+
+/// A LEB128 number: its shortest form, made longer by so many bytes.
+fn leb128(mut number: u64, padding: usize) -> Vec<u8> {
+    let mut bytes = Vec::new();
+    while number > 0x7f {
+        bytes.push(number as u8 | 0x80);
+        number >>= 7;
+    }
+    bytes.push(number as u8);
+    for _ in 0..padding {
+        *bytes.last_mut().expect("a byte") |= 0x80;
+        bytes.push(0);
+    }
+    bytes
 }
 
 fn read_u8(c: &mut Checks) {
@@ -818,6 +873,274 @@ fn range_next_raw(c: &mut Checks) {
         (vec![Err(Error::BadUnsignedLeb128)], Ok(None)),
     );
     c.same(raw(&[], encoding(5, 1)), (vec![], Ok(None)));
+    padded_ranges(c);
+}
+
+fn padded_ranges(c: &mut Checks) {
+    use RawRngListEntry::*;
+    let noted = |bytes: &[u8], encoding| {
+        let mut walk = open_ranges(bytes, encoding, 0);
+        steps(|| (walk.next_raw_noted(), walk.place(), walk.entries()))
+    };
+    let (five, end) = (encoding(5, 4), Ok(None));
+    let is = |entry, padded| Ok(Some(Noted { entry, padded }));
+    // One entry, what is noted of it, and the place behind it; then the list's end.
+    let pair = OffsetPair { begin: 1, end: 2 };
+    let first = BaseAddressx { addr: DebugAddrIndex(0) };
+    let length = StartLength { begin: 0x10, length: 0x10 };
+    let start_end = StartEnd { begin: 0x10, end: 0x20 };
+    let bare = AddressOrOffsetPair { begin: 1, end: 2 };
+    let half = 1 << 63;
+    for (bytes, encoding, entry, padded, place) in [
+        (&[4, 1, 0x82, 0, 0][..], five, pair, true, 4),
+        (&[4, 0x81, 0, 2], five, pair, true, 4),
+        (&[4, 1, 2, 0], five, pair, false, 3),
+        (&[1, 0x80, 0, 0], five, first, true, 3),
+        (&[7, 0x10, 0, 0, 0, 0x90, 0, 0], five, length, true, 7),
+        (&[6, 0x10, 0, 0, 0, 0x20, 0, 0, 0, 0], five, start_end, false, 9),
+        (&[1, 0, 2, 0, 0, 0, 0, 0], encoding(4, 2), bare, false, 4),
+        (
+            &join(&[&[4], &NINE, &[1], &NINE, &[1]]),
+            five,
+            OffsetPair { begin: half, end: half },
+            false,
+            21,
+        ),
+        (
+            &join(&[&[4], &NINE, &[1], &NINE, &[0]]),
+            five,
+            OffsetPair { begin: half, end: 0 },
+            true,
+            21,
+        ),
+    ] {
+        let (len, marked) = (bytes.len() as u64, u64::from(place < bytes.len() as u64));
+        let expected = vec![(is(entry, padded), place, 1), (end, len, 1 + marked)];
+        c.same(noted(bytes, encoding), [&expected[..], &[(end, len, 1 + marked)]].concat());
+    }
+    // Refused, and at the end, whatever was read before; each entry by its own numbers.
+    let end = |place, entries| [(end, place, entries), (end, place, entries)];
+    let refused = |bytes: &[u8], e| {
+        let len = bytes.len() as u64;
+        [&[(Err(e), len, 0)][..], &end(len, 0)].concat()
+    };
+    for (bytes, e) in [
+        (&[4, 0x80, 0][..], EOF),
+        (&join(&[&[4, 0x80, 0], &NINE, &[2]]), Error::BadUnsignedLeb128),
+        (&[8, 0x80, 0], Error::UnknownRangeListsEntry(8)),
+    ] {
+        c.same(noted(bytes, five), refused(bytes, e));
+    }
+    let several = [1, 0x80, 0, 1, 0, 2, 0x80, 0, 0x81, 0, 3, 0, 1, 4, 0, 0x81, 0, 8, 0x80, 0];
+    let index = DebugAddrIndex;
+    let entries = [
+        (is(first, true), 3, 1),
+        (is(first, false), 5, 2),
+        (is(StartxEndx { begin: index(0), end: index(1) }, true), 10, 3),
+        (is(StartxLength { begin: index(0), length: 1 }, false), 13, 4),
+        (is(OffsetPair { begin: 0, end: 1 }, true), 17, 5),
+        (Err(Error::UnknownRangeListsEntry(8)), 20, 5),
+    ];
+    c.same(noted(&several, five), [&entries[..], &end(20, 5)].concat());
+    c.same(noted(&[], five), end(0, 0).to_vec());
+    for version in [2, 4, 5, 6] {
+        entries_padded(c, false, false, version);
+    }
+}
+
+/// The operands of a bare pair and of kinds, as the scope has them: n is a LEB128 number, a an
+/// address, l a length, and x an expression, which begins with its length. From version 5 on these
+/// two lengths are LEB128; before, l has four bytes and that of x two.
+const RANGE_OPERANDS: [&str; 8] = ["aa", "n", "nn", "nn", "nn", "a", "aa", "an"];
+const LOCATION_OPERANDS: [&str; 9] = ["aax", "n", "nnx", "nlx", "nnx", "x", "a", "aax", "anx"];
+
+/// What is written into an entry: two numbers, a length, and how many bytes are added to a number
+/// that is padded. Where a length is not LEB128, this one is its first byte, and 00 the others.
+const WRITTEN: [([u64; 2], u64, usize); 5] = [
+    ([1, 2], 1, 1),
+    ([0, 0x7f], 0, 1),
+    ([0x7f, 0], 2, 9),
+    ([0x80, 0x3fff], 0x80, 1),
+    ([0x4000, u64::MAX >> 1], 0x80, 1),
+];
+
+fn is_leb128(operand: char, version: u16) -> bool {
+    operand == 'n' || (operand != 'a' && version >= 5)
+}
+
+/// A raw entry as its kind, two numbers, and its expression's bytes and offset.
+type Raw<'a> = (usize, u64, u64, &'a [u8], usize);
+
+/// An entry at place 2, or for kind 0 a bare pair, as bytes and as it is read, its expression by
+/// length and offset. Its LEB128 numbers are padded as the bits of `which` say, the first by the
+/// lowest. Other bytes before it and in it are like padded numbers.
+fn entry(
+    operands: &str,
+    kind: usize,
+    encoding: Encoding,
+    endian: RunTimeEndian,
+    (numbers, length, padding): ([u64; 2], u64, usize),
+    mut which: u32,
+) -> (Vec<u8>, [u64; 2], (usize, usize)) {
+    let mut bytes = vec![0x80, 0];
+    if kind != 0 {
+        bytes.push(kind as u8);
+    }
+    let (mut told, mut n, mut expression) = ([0; 2], 0, (0, 0));
+    for operand in operands.chars() {
+        let number = if is_leb128(operand, encoding.version) {
+            let number = if operand == 'x' { length } else { numbers[n] };
+            bytes.extend(leb128(number, if which % 2 == 1 { padding } else { 0 }));
+            which /= 2;
+            number
+        } else {
+            let width = match operand {
+                'a' => encoding.address_size.into(),
+                'l' => 4,
+                _ => 2,
+            };
+            let begin = match operand {
+                // A bare pair begins like kind 4 with a padded number.
+                'a' if kind == 0 && n == 0 => [4, 0x80],
+                'a' => [0x80, 0],
+                _ => [length as u8, 0],
+            };
+            let fixed = &join(&[&begin, &[0; 6]])[..width];
+            bytes.extend(fixed);
+            let value = |number, byte: &u8| number << 8 | u64::from(*byte);
+            match endian {
+                Big => fixed.iter().fold(0, value),
+                Little => fixed.iter().rev().fold(0, value),
+            }
+        };
+        if operand == 'x' {
+            expression = (number as usize, bytes.len());
+            bytes.extend([&[0x80], &[0; 0x8000][..]].concat().iter().take(number as usize));
+        } else {
+            told[n] = number;
+            n += 1;
+        }
+    }
+    (bytes, told, expression)
+}
+
+/// The entry at place 2 by each call that reads one, and what is noted where the call does.
+fn by_each_call<'a>(
+    locations: bool,
+    split: bool,
+    bytes: &'a [u8],
+    endian: RunTimeEndian,
+    encoding: Encoding,
+) -> [Step<(Raw<'a>, Option<bool>)>; 4] {
+    macro_rules! calls {
+        ($raw:expr, $walk:expr, $told:expr) => {{
+            let (mut raw, mut walk) = ($raw.expect("an open list"), $walk.expect("an open list"));
+            let (mut plain_raw, mut plain_walk) = (raw.clone(), walk.clone());
+            let noted = |noted: Noted<_>| ($told(noted.entry), Some(noted.padded));
+            let plain = |entry| ($told(entry), None);
+            [
+                (raw.next_noted().map(|e| e.map(noted)), raw.place(), raw.entries()),
+                (walk.next_raw_noted().map(|e| e.map(noted)), walk.place(), walk.entries()),
+                (plain_raw.next().map(|e| e.map(plain)), plain_raw.place(), plain_raw.entries()),
+                (
+                    plain_walk.next_raw().map(|e| e.map(plain)),
+                    plain_walk.place(),
+                    plain_walk.entries(),
+                ),
+            ]
+        }};
+    }
+    let (table, base) = (DebugAddr::default(), DebugAddrBase(0));
+    let (at, l_at) = (RangeListsOffset(2), LocationListsOffset(2));
+    let (ranges, in_locations) = (range_lists(bytes, endian), location_lists(bytes, endian));
+    match (locations, split) {
+        (false, _) => calls!(
+            ranges.raw_ranges(at, encoding),
+            ranges.ranges(at, encoding, 7, &table, base),
+            raw_range
+        ),
+        (true, false) => calls!(
+            in_locations.raw_locations(l_at, encoding),
+            in_locations.locations(l_at, encoding, 7, &table, base),
+            raw_location
+        ),
+        (true, true) => calls!(
+            in_locations.raw_locations_dwo(l_at, encoding),
+            in_locations.locations_dwo(l_at, encoding, 7, &table, base),
+            raw_location
+        ),
+    }
+}
+
+/// Every kind of a version's entries, with none of its LEB128 numbers padded, each of them and any of
+/// them, in both orders and of all sizes; whole, with bytes behind them, and cut short.
+fn entries_padded(c: &mut Checks, locations: bool, split: bool, version: u16) {
+    let operands: &[&str] = if locations { &LOCATION_OPERANDS } else { &RANGE_OPERANDS };
+    let kinds = if version >= 5 || split { 1..operands.len() } else { 0..1 };
+    for (size, endian) in [1, 2, 3, 4, 8].into_iter().flat_map(|size| [(size, Little), (size, Big)])
+    {
+        for kind in kinds.clone() {
+            let (encoding, operands) = (encoding(version, size), operands[kind]);
+            let choices = 1 << operands.chars().filter(|o| is_leb128(*o, version)).count();
+            let mut wrong = Vec::new();
+            for (written, which) in
+                WRITTEN.into_iter().flat_map(|written| (0..choices).map(move |n| (written, n)))
+            {
+                let (bytes, [first, second], (length, offset)) =
+                    entry(operands, kind, encoding, endian, written, which);
+                let (end, more) = (bytes.len(), join(&[&bytes, &[0x80, 0]]));
+                let mut ask = |len: usize, expected: [Step<_>; 4]| {
+                    let got = by_each_call(locations, split, &more[..len], endian, encoding);
+                    if got != expected {
+                        wrong.push((written, which, len));
+                    }
+                };
+                let told = (kind, first, second, &bytes[offset..offset + length], offset);
+                for len in end..=end + 2 {
+                    let is = |padded| (Ok(Some((told, padded))), end as u64, 1);
+                    let (noted, plain) = (is(Some(which != 0)), is(None));
+                    ask(len, [noted, noted, plain, plain]);
+                }
+                for len in (3..end).filter(|len| *len < 40 || *len == end - 1) {
+                    ask(len, [(Err(EOF), len as u64, 0); 4]);
+                }
+            }
+            c.same(
+                (version, split, size, endian, kind, wrong),
+                (version, split, size, endian, kind, vec![]),
+            );
+        }
+        // A base selection, which stands among bare pairs.
+        if kinds.start == 0 {
+            let (width, encoding) = (usize::from(size), encoding(version, size));
+            let mut address = vec![0; width];
+            address[if endian == Big { width - 1 } else { 0 }] = 0x80;
+            let bytes = join(&[&[0x80, 0], &vec![0xff; width], &address, &[0x80, 0]]);
+            let kind = if locations { 6 } else { 5 };
+            let is = |padded| {
+                let told = (kind, 0x80, 0, &[][..], 0);
+                (Ok(Some((told, padded))), 2 + 2 * u64::from(size), 1)
+            };
+            let (noted, plain) = (is(Some(false)), is(None));
+            let got = by_each_call(locations, split, &bytes, endian, encoding);
+            c.same(got, [noted, noted, plain, plain]);
+        }
+    }
+}
+
+fn raw_range<'a>(raw: RawRngListEntry) -> Raw<'a> {
+    use RawRngListEntry::*;
+    let (kind, first, second) = match raw {
+        AddressOrOffsetPair { begin, end } => (0, begin, end),
+        BaseAddressx { addr } => (1, addr.0, 0),
+        StartxEndx { begin, end } => (2, begin.0, end.0),
+        StartxLength { begin, length } => (3, begin.0, length),
+        OffsetPair { begin, end } => (4, begin, end),
+        BaseAddress { addr } => (5, addr, 0),
+        StartEnd { begin, end } => (6, begin, end),
+        StartLength { begin, length } => (7, begin, length),
+    };
+    (kind, first, second, &[], 0)
 }
 
 fn range_convert_raw(c: &mut Checks) {
@@ -891,6 +1214,20 @@ fn range_convert_raw(c: &mut Checks) {
         walk.convert_raw(StartxLength { begin: index(THIRD + 1), length }),
         Err(Error::UnsupportedOffset),
     );
+    // Entries with padded numbers come to what they come to without.
+    let bytes = [
+        1, 0x81, 0, 4, 0x81, 0, 0x82, 0x80, 0, 2, 0x80, 0, 0x81, 0, 3, 0x81, 0, 0x85, 0, 7, 5, 0,
+        0, 0, 0x87, 0, 0,
+    ];
+    let found = [at(0x21, 0x22), at(0x10, 0x20), at(0x20, 0x25), at(5, 12)].map(Some);
+    let mut walk = open_ranges(&bytes, encoding(5, 4), 0x100);
+    for expected in [&[None][..], &found].concat() {
+        let Noted { entry, padded } = walk.next_raw_noted().unwrap().unwrap();
+        c.same((padded, walk.convert_raw(entry)), (true, Ok(expected)));
+    }
+    c.same(walk.next_raw_noted(), Ok(None));
+    let walk = open_ranges(&bytes, encoding(5, 4), 0x100);
+    c.same(walk.map(Result::ok).collect::<Vec<_>>(), found.to_vec());
 }
 
 fn range_lookup(c: &mut Checks) {
@@ -1137,25 +1474,23 @@ const LOCATION_KINDS: &[u8] = &[
     0, 0, 9,
 ];
 
-fn location_next_raw(c: &mut Checks) {
+fn raw_location(raw: RawLocListEntry<'_>) -> Raw<'_> {
     use RawLocListEntry::*;
-    let bytes_of = |raw: Result<RawLocListEntry<'static>>| {
-        raw.map(|raw| match raw {
-            AddressOrOffsetPair { begin, end, data } => {
-                (0, begin, end, data.bytes(), data.offset())
-            }
-            BaseAddressx { addr } => (1, addr.0, 0, &[][..], 0),
-            StartxEndx { begin, end, data } => (2, begin.0, end.0, data.bytes(), data.offset()),
-            StartxLength { begin, length, data } => {
-                (3, begin.0, length, data.bytes(), data.offset())
-            }
-            OffsetPair { begin, end, data } => (4, begin, end, data.bytes(), data.offset()),
-            DefaultLocation { data } => (5, 0, 0, data.bytes(), data.offset()),
-            BaseAddress { addr } => (6, addr, 0, &[][..], 0),
-            StartEnd { begin, end, data } => (7, begin, end, data.bytes(), data.offset()),
-            StartLength { begin, length, data } => (8, begin, length, data.bytes(), data.offset()),
-        })
-    };
+    match raw {
+        AddressOrOffsetPair { begin, end, data } => (0, begin, end, data.bytes(), data.offset()),
+        BaseAddressx { addr } => (1, addr.0, 0, &[][..], 0),
+        StartxEndx { begin, end, data } => (2, begin.0, end.0, data.bytes(), data.offset()),
+        StartxLength { begin, length, data } => (3, begin.0, length, data.bytes(), data.offset()),
+        OffsetPair { begin, end, data } => (4, begin, end, data.bytes(), data.offset()),
+        DefaultLocation { data } => (5, 0, 0, data.bytes(), data.offset()),
+        BaseAddress { addr } => (6, addr, 0, &[][..], 0),
+        StartEnd { begin, end, data } => (7, begin, end, data.bytes(), data.offset()),
+        StartLength { begin, length, data } => (8, begin, length, data.bytes(), data.offset()),
+    }
+}
+
+fn location_next_raw(c: &mut Checks) {
+    let bytes_of = |raw: Result<RawLocListEntry<'static>>| raw.map(raw_location);
     let raw = |bytes, encoding, split| {
         let mut walk = open_locations(bytes, encoding, split, 0);
         let all: Vec<_> =
@@ -1218,6 +1553,73 @@ fn location_next_raw(c: &mut Checks) {
     );
     c.same(raw(&[9], encoding(5, 1), false), vec![Err(Error::UnknownLocListsEntry(9))]);
     c.same(raw(&[], encoding(5, 1), true), vec![]);
+    padded_locations(c);
+}
+
+fn padded_locations(c: &mut Checks) {
+    let noted = |bytes: &'static [u8], split, encoding| {
+        let mut walk = open_locations(bytes, encoding, split, 0);
+        let told = |noted: Noted<_>| (raw_location(noted.entry), noted.padded);
+        steps(|| (walk.next_raw_noted().map(|e| e.map(told)), walk.place(), walk.entries()))
+    };
+    let (four, five, none) = (encoding(4, 4), encoding(5, 4), &[][..]);
+    // One entry, what is noted of it, and the place behind it; then the list's end.
+    for (bytes, split, encoding, entry, padded, place) in [
+        (&[5, 0x81, 0, 0x50, 0][..], false, five, (5, 0, 0, &[0x50][..], 3), true, 4),
+        (&[5, 1, 0x50, 0], false, five, (5, 0, 0, &[0x50], 2), false, 3),
+        (&[3, 0, 0x88, 0, 1, 0x50, 0], false, five, (3, 0, 8, &[0x50], 5), true, 6),
+        (&[3, 0, 0x88, 0, 1, 0x50, 0], true, five, (3, 0, 8, &[0x50], 5), true, 6),
+        (&[3, 0, 8, 0, 0, 0, 1, 0, 0x50, 0], true, four, (3, 0, 8, &[0x50], 8), false, 9),
+        (&[3, 0x80, 0, 8, 0, 0, 0, 1, 0, 0x50, 0], true, four, (3, 0, 8, &[0x50], 9), true, 10),
+        (&[3, 0, 0x80, 0, 0, 0, 0, 0], true, four, (3, 0, 0x80, none, 8), false, 8),
+        (&[4, 0x81, 0, 0x82, 0, 1, 0, 0x50, 0], true, four, (4, 1, 2, &[0x50], 7), true, 8),
+        (&[8, 0x10, 0x81, 0, 0, 0], true, encoding(4, 1), (8, 0x10, 1, none, 6), true, 6),
+        (&[0x80, 0, 0x81, 0, 0, 0], false, encoding(4, 2), (0, 0x80, 0x81, none, 6), false, 6),
+    ] {
+        let (len, marked) = (bytes.len() as u64, u64::from(place < bytes.len() as u64));
+        let end = (Ok(None), len, 1 + marked);
+        c.same(
+            noted(bytes, split, encoding),
+            vec![(Ok(Some((entry, padded))), place, 1), end, end],
+        );
+    }
+    // Refused, and at the end, whatever was read before; each entry by its own numbers.
+    for (bytes, split, encoding, e) in [
+        (&[5, 0x82, 0, 0x50][..], false, five, EOF),
+        (&[2, 0x80, 0, 0x80, 0, 1], true, four, EOF),
+        (
+            &[4, 0x80, 0, 0x80, 0x80, 0x80, 0x80, 0x80, 0x80, 0x80, 0x80, 0x80, 2],
+            false,
+            five,
+            Error::BadUnsignedLeb128,
+        ),
+        (&[9, 0x80, 0], false, five, Error::UnknownLocListsEntry(9)),
+    ] {
+        let (len, end) = (bytes.len() as u64, (Ok(None), bytes.len() as u64, 0));
+        c.same(noted(bytes, split, encoding), vec![(Err(e), len, 0), end, end]);
+    }
+    let several =
+        &[5, 0x80, 0, 5, 0, 1, 0x80, 0, 6, 0x80, 8, 0x10, 0x81, 0, 0, 4, 0, 1, 0x80, 0, 9, 0x80, 0];
+    let is = |entry, padded| Ok(Some((entry, padded)));
+    c.same(
+        noted(several, false, encoding(5, 1)),
+        vec![
+            (is((5, 0, 0, none, 3), true), 3, 1),
+            (is((5, 0, 0, none, 5), false), 5, 2),
+            (is((1, 0, 0, none, 0), true), 8, 3),
+            (is((6, 0x80, 0, none, 0), false), 10, 4),
+            (is((8, 0x10, 1, none, 15), true), 15, 5),
+            (is((4, 0, 1, none, 20), true), 20, 6),
+            (Err(Error::UnknownLocListsEntry(9)), 23, 6),
+            (Ok(None), 23, 6),
+            (Ok(None), 23, 6),
+        ],
+    );
+    c.same(noted(&[], true, four), vec![(Ok(None), 0, 0); 2]);
+    for version in [2, 4, 5, 6] {
+        entries_padded(c, true, false, version);
+        entries_padded(c, true, true, version);
+    }
 }
 
 fn location_convert_raw(c: &mut Checks) {
@@ -1288,6 +1690,35 @@ fn location_convert_raw(c: &mut Checks) {
         walk.convert_raw(StartxLength { begin: index(THIRD + 1), length: 1, data }),
         Err(Error::UnsupportedOffset),
     );
+    // Entries with padded numbers come to what they come to without.
+    let five: &[u8] = &[
+        1, 0x81, 0, 4, 0x81, 0, 0x82, 0x80, 0, 0x81, 0, 0x50, 2, 0x80, 0, 0x81, 0, 0x80, 0, 3,
+        0x81, 0, 0x85, 0, 0x80, 0, 5, 0x81, 0, 0x51, 7, 5, 0, 0, 0, 7, 0, 0, 0, 0x80, 0, 8, 5, 0,
+        0, 0, 0x87, 0, 0x80, 0, 0,
+    ];
+    let in_five = vec![
+        (at(0x21, 0x22), &[0x50][..], 11),
+        (at(0x10, 0x20), &[], 19),
+        (at(0x20, 0x25), &[], 26),
+        (at(0, u64::MAX), &[0x51], 29),
+        (at(5, 7), &[], 41),
+        (at(5, 12), &[], 50),
+    ];
+    let four: &[u8] =
+        &[1, 0x81, 0, 3, 0x81, 0, 5, 0, 0, 0, 0, 0, 4, 0x81, 0, 0x82, 0x80, 0, 1, 0, 0x50, 0];
+    let in_four = vec![(at(0x20, 0x25), &[][..], 12), (at(0x21, 0x22), &[0x50], 20)];
+    for (bytes, version, found) in [(five, 5, in_five), (four, 4, in_four)] {
+        let split = version == 4;
+        let mut walk = open_locations(bytes, encoding(version, 4), split, 0x100);
+        for expected in std::iter::once(None).chain(found.iter().copied().map(Some)) {
+            let Noted { entry, padded } = walk.next_raw_noted().unwrap().unwrap();
+            let converted = walk.convert_raw(entry).map(|l| l.map(told));
+            c.same((padded, converted), (true, Ok(expected)));
+        }
+        c.same(walk.next_raw_noted(), Ok(None));
+        let expected = found.into_iter().map(Ok).collect::<Vec<_>>();
+        c.same(locations(bytes, encoding(version, 4), split, 0x100), expected);
+    }
 }
 
 fn expression(c: &mut Checks) {

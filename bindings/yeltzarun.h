@@ -56,7 +56,7 @@ extern "C" {
 #endif
 
 /* The version of this interface; it changes with every change of a struct, a number or a call. */
-#define YZ_VERSION 6
+#define YZ_VERSION 7
 
 /* The version of the library that is linked; the header is for it where this is YZ_VERSION. */
 uint32_t yz_version(void);
@@ -183,7 +183,7 @@ typedef char yz_check_sizes[sizeof(yz_result) == 4 && sizeof(size_t) == 8 ? 1 : 
  * coverage, runs or canonical list, and yz_coverage_from_canonical; the same where the list yields at most 32 ranges; any other. */
 #define YZ_STACK (48 * YZ_LIMIT + 11000)
 #define YZ_STACK_SHORT 6000
-#define YZ_STACK_OTHERS 300
+#define YZ_STACK_OTHERS 400
 
 /* The begins or the ends of a coverage's ranges. */
 typedef struct yz_bounds { uint64_t at[YZ_LIMIT]; } yz_bounds;
@@ -271,6 +271,17 @@ typedef struct yz_read {
     uint64_t number;
 } yz_read;
 
+/* Done: a LEB128 number that was read. */
+typedef struct yz_leb128 {
+    yz_result result;
+    yz_refusal refusal;
+    uint64_t refusal_value;
+    uint64_t next; /* the place after the number */
+    uint64_t number;
+    uint64_t length; /* how many bytes the number takes, 1 to 10 */
+    uint64_t padded; /* 1 where a shorter form of the number exists: it has more than one byte, and the last is 00; else 0 */
+} yz_leb128;
+
 /* Done: a part of the section. */
 typedef struct yz_split_part {
     yz_result result;
@@ -337,6 +348,7 @@ typedef struct yz_raw_range {
     yz_refusal refusal;
     uint64_t refusal_value;
     yz_range_entry entry;
+    uint64_t padded; /* 1 where some LEB128 number of the entry is padded, else 0; "Walks", below, says which these are */
 } yz_raw_range;
 
 /* Done: an entry of a location list as it is written. */
@@ -345,12 +357,13 @@ typedef struct yz_raw_location {
     yz_refusal refusal;
     uint64_t refusal_value;
     yz_location_entry entry;
+    uint64_t padded; /* as in yz_raw_range */
 } yz_raw_location;
 
 /* ---- Reads at a place. Done, or refused: 1 where bytes are missing. ---- */
 
-/* An unsigned LEB128 number of at most ten bytes. Refused: 1, 2. */
-yz_read yz_uleb128(const uint8_t *section, size_t section_len, size_t at);
+/* An unsigned LEB128 number of at most ten bytes, its length, and whether it is padded. Refused: 1, 2. */
+yz_leb128 yz_uleb128(const uint8_t *section, size_t section_len, size_t at);
 
 /* A number of one byte. Refused: 1. */
 yz_read yz_read_u8(const uint8_t *section, size_t section_len, size_t at);
@@ -437,7 +450,12 @@ uint64_t yz_location_default_base(yz_encoding encoding, yz_file_type file_type);
  * Opening sets entries to 0. Each entry that .._next or .._next_raw reads adds one, also one that comes to no range or
  * location, one whose lookup fails, and the end mark: where .._next is done, entries is the number of the entry that the item
  * is of, counted from 1. A refused entry is not read and adds nothing; nor does the section's end without an end mark, a call
- * after the end, or .._convert_raw. ---- */
+ * after the end, or .._convert_raw.
+ *
+ * In what .._next_raw answers, padded is 1 where at least one LEB128 number of the entry is padded (yz_leb128), else 0. LEB128
+ * are indexes, the numbers of an offset pair, and lengths; but that of YZ_LLE_STARTX_LENGTH and that of an expression only from
+ * version 5 on, before which they have four and two bytes. These, addresses and bare pairs are never padded, whatever their
+ * bytes. At the end and at a refusal padded is 0, also where a padded number was read. ---- */
 
 /* Which section a unit's lists stand in: the answer itself. */
 yz_section yz_section_of(yz_encoding encoding);

@@ -45,6 +45,13 @@
 //! walk.return_to(0)?;
 //! assert_eq!((walk.entries(), walk.next()?), (0, first));
 //!
+//! // How long a LEB128 number is, and whether it could be shorter; and whether one of an entry could.
+//! let mut slice = EndianSlice::new(&[0x82, 0x00], little);
+//! let number = slice.read_uleb128_with_length()?;
+//! assert_eq!(number, Leb128 { value: 2, length: 2, padded: true });
+//! let mut walk = lists.raw_locations_dwo(offset, encoding)?;
+//! assert_eq!(walk.next_noted()?.map(|noted| noted.padded), Some(false));
+//!
 //! let dwo = DwarfFileType::Dwo;
 //! let found = lists.lookup(offset, encoding, dwo, 0, &debug_addr, base, 0x18)?;
 //! assert_eq!(found, None);
@@ -94,18 +101,18 @@ pub use common::{
     RangeListsOffset, RunTimeEndian,
 };
 pub use coverage::{CANONICAL_MAX, CanonicalList, Coverage, SHEET_MAX, Sheet};
-pub use entries::{Expression, LocationListEntry, Range, RawLocListEntry, RawRngListEntry};
+pub use entries::{Expression, LocationListEntry, Noted, Range, RawLocListEntry, RawRngListEntry};
 pub use error::{Error, Result};
 pub use ffi::{LIMIT, MARKS};
 pub use lists::ListsHeader;
 pub use loclists::{LocListIter, LocationLists, RawLocListIter};
 pub use marks::{ListWalk, Marked};
-pub use reader::{EndianSlice, ReaderAddress};
+pub use reader::{EndianSlice, Leb128, ReaderAddress};
 pub use rnglists::{RangeLists, RawRngListIter, RngListIter};
 pub use section::{DebugAddr, DebugLoc, DebugLocLists, DebugRanges, DebugRngLists};
 
 /// The version of the interface that this wrapper is for.
-pub const VERSION: u32 = 6;
+pub const VERSION: u32 = 7;
 
 /// The version of the library that is linked. Where it isn't [`VERSION`], its answers can't be
 /// understood.

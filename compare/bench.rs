@@ -35,6 +35,7 @@ mod bench_sets;
 mod elf;
 
 use bench_gimli::{Covering, Heading, Lists, Marking, Putting, Seeking, Walking, Writing};
+use bench_gimli::{Entering, Numbering, SharedEntering, SharedNumbering};
 use bench_rows::{Kind, Row, Task};
 use oracle::endianity::RunTimeEndian;
 use std::hint::black_box;
@@ -56,6 +57,8 @@ fn sides(row: &Row) -> [Run<'_>; 3] {
         Task::FromSheet => from_sheets(row),
         Task::Headers => headers(row),
         Task::Marks => marks(row),
+        Task::Raw => raws(row),
+        Task::Numbers => numbers(row),
     }
 }
 
@@ -185,11 +188,41 @@ fn marks(row: &Row) -> [Run<'_>; 3] {
     }
 }
 
+fn raws(row: &Row) -> [Run<'_>; 3] {
+    let (one, several) = (Lists::<Entering>::new(row), Lists::<SharedEntering>::new(row));
+    if row.kind == Kind::Ranges {
+        [
+            Box::new(|passes| bench_port::raw_ranges(row, passes)),
+            Box::new(move |passes| bench_gimli::raw_ranges(&one, passes)),
+            Box::new(move |passes| bench_gimli::raw_ranges(&several, passes)),
+        ]
+    } else {
+        [
+            Box::new(|passes| bench_port::raw_locations(row, passes)),
+            Box::new(move |passes| bench_gimli::raw_locations(&one, passes)),
+            Box::new(move |passes| bench_gimli::raw_locations(&several, passes)),
+        ]
+    }
+}
+
+fn numbers(row: &Row) -> [Run<'_>; 3] {
+    let one = bench_gimli::section::<Numbering>(row);
+    let several = bench_gimli::section::<SharedNumbering>(row);
+    [
+        Box::new(|passes| bench_port::numbers(row, passes)),
+        Box::new(move |passes| bench_gimli::numbers(one, passes)),
+        Box::new(move |passes| bench_gimli::numbers(several, passes)),
+    ]
+}
+
 /// Both sides must have read the same before anything is timed.
 fn check(row: &Row, runs: &mut [Run<'_>; 3]) {
     let lists = Lists::<RunTimeEndian>::new(row);
     let yielded = match (row.task, row.kind) {
         (Task::Headers, _) => bench_gimli::count_headers(&lists),
+        (Task::Raw, Kind::Ranges) => bench_gimli::count_raw_ranges(&Lists::new(row)),
+        (Task::Raw, _) => bench_gimli::count_raw_locations(&Lists::new(row)),
+        (Task::Numbers, _) => bench_gimli::count_numbers(bench_gimli::section(row)),
         (_, Kind::Ranges) => bench_gimli::count_ranges(&lists),
         _ => bench_gimli::count_locations(&lists),
     };

@@ -3,16 +3,21 @@
 //!
 //! Over `RunTimeEndian` all loops of the program share one `next`, which stays
 //! a call ("several callers"). Each of the byte orders `Walking`, `Seeking`,
-//! `Covering`, `Putting`, `Writing`, `Heading`, `Marking` is a `RunTimeEndian` under
-//! another name, so that its `next` has one caller and is inlined there ("one
-//! caller"); those with `Real` before are for loops over many lists.
+//! `Covering`, `Putting`, `Writing`, `Heading`, `Marking`, `Entering`,
+//! `Numbering` is a `RunTimeEndian` under another name, so that its `next` has
+//! one caller and is inlined there ("one caller"); those with `Real` before are
+//! for loops over many lists. Raw entries and numbers have an order for several
+//! callers, too, whose name begins with `Shared`: the raw `next` over
+//! `RunTimeEndian` has one caller, the other `next`.
 
+use crate::bench_port::raw_sum;
 use crate::bench_rows::{Kind, Row};
 use oracle::common::{DebugAddrBase, Encoding, Format, LocationListsOffset, RangeListsOffset};
 use oracle::endianity::{Endianity, RunTimeEndian};
 use oracle::read::{
-    DebugAddr, DebugLoc, DebugLocLists, DebugRanges, DebugRngLists, EndianSlice, Error,
-    LocListIter, LocationListEntry, LocationLists, Range, RangeLists, RngListIter,
+    DebugAddr, DebugLoc, DebugLocLists, DebugRanges, DebugRngLists, EndianSlice, Error, Expression,
+    LocListIter, LocationListEntry, LocationLists, Range, RangeLists, RawLocListEntry,
+    RawLocListIter, RawRngListEntry, RawRngListIter, Reader, RngListIter,
 };
 use std::hint::black_box;
 
@@ -39,6 +44,7 @@ macro_rules! orders {
 }
 
 orders! { Walking Seeking Covering Putting Writing Heading Marking }
+orders! { Entering SharedEntering Numbering SharedNumbering }
 orders! { RealWalking RealSeeking RealCovering RealPutting RealWriting }
 
 /// A byte order that the program chooses when it runs.
@@ -102,10 +108,30 @@ impl<'a, E: Order> Lists<'a, E> {
         }
     }
 
+    #[inline(always)]
+    fn open_raw_ranges(&self) -> Result<RawRngListIter<Slice<'a, E>>, Error> {
+        self.ranges.raw_ranges(RangeListsOffset(self.offset as usize), self.encoding)
+    }
+
+    #[inline(always)]
+    fn open_raw_locations(&self) -> Result<RawLocListIter<Slice<'a, E>>, Error> {
+        let offset = LocationListsOffset(self.offset as usize);
+        if self.split {
+            self.locations.raw_locations_dwo(offset, self.encoding)
+        } else {
+            self.locations.raw_locations(offset, self.encoding)
+        }
+    }
+
     /// The place of an expression, counted from the section's start.
     #[inline(always)]
     fn place(&self, entry: &LocationListEntry<Slice<'a, E>>) -> u64 {
-        let bytes = entry.data.0.slice();
+        self.place_of(&entry.data)
+    }
+
+    #[inline(always)]
+    fn place_of(&self, expression: &Expression<Slice<'a, E>>) -> u64 {
+        let bytes = expression.0.slice();
         (bytes.as_ptr() as usize).wrapping_sub(self.section.as_ptr() as usize) as u64
     }
 }
@@ -227,6 +253,99 @@ pub fn mark_locations<E: Order>(lists: &Lists<'_, E>, passes: u64) -> u64 {
         walk_locations_with(lists, lists.offset, |walk| marks.there_and_back(walk))
             .unwrap_or_else(|error| refused(error))
     })
+}
+
+/// An entry by the code of its kind, 0 for a bare pair, and its numbers.
+#[inline(always)]
+fn range_numbers(entry: RawRngListEntry<usize>) -> (u64, u64, u64) {
+    use RawRngListEntry as E;
+    match entry {
+        E::AddressOrOffsetPair { begin, end } => (0, begin, end),
+        E::BaseAddressx { addr } => (1, addr.0 as u64, 0),
+        E::StartxEndx { begin, end } => (2, begin.0 as u64, end.0 as u64),
+        E::StartxLength { begin, length } => (3, begin.0 as u64, length),
+        E::OffsetPair { begin, end } => (4, begin, end),
+        E::BaseAddress { addr } => (5, addr, 0),
+        E::StartEnd { begin, end } => (6, begin, end),
+        E::StartLength { begin, length } => (7, begin, length),
+    }
+}
+
+/// And its expression.
+#[inline(always)]
+fn location_numbers<R: Reader<Offset = usize>>(
+    entry: RawLocListEntry<R>,
+) -> (u64, u64, u64, Option<Expression<R>>) {
+    use RawLocListEntry as E;
+    match entry {
+        E::AddressOrOffsetPair { begin, end, data } => (0, begin, end, Some(data)),
+        E::BaseAddressx { addr } => (1, addr.0 as u64, 0, None),
+        E::StartxEndx { begin, end, data } => (2, begin.0 as u64, end.0 as u64, Some(data)),
+        E::StartxLength { begin, length, data } => (3, begin.0 as u64, length, Some(data)),
+        E::OffsetPair { begin, end, data } => (4, begin, end, Some(data)),
+        E::DefaultLocation { data } => (5, 0, 0, Some(data)),
+        E::BaseAddress { addr } => (6, addr, 0, None),
+        E::StartEnd { begin, end, data } => (7, begin, end, Some(data)),
+        E::StartLength { begin, length, data } => (8, begin, length, Some(data)),
+    }
+}
+
+/// The raw `next` has no loop of its own, as the other has. Here is one more around
+/// it, so that all of gimli's readers are inlined as well.
+#[inline(never)]
+pub fn raw_ranges<E: Order>(lists: &Lists<'_, E>, passes: u64) -> u64 {
+    let once = |lists| raw_ranges_once(lists).unwrap_or_else(|error| refused(error));
+    repeat!(1, repeat!(passes, once(black_box(lists))))
+}
+
+#[inline(always)]
+fn raw_ranges_once<E: Order>(lists: &Lists<'_, E>) -> Result<u64, Error> {
+    let mut walk = lists.open_raw_ranges()?;
+    let mut sum = 0u64;
+    while let Some(entry) = walk.next()? {
+        let (kind, first, second) = range_numbers(entry);
+        sum = raw_sum(sum, kind, first, second);
+    }
+    Ok(sum)
+}
+
+#[inline(never)]
+pub fn raw_locations<E: Order>(lists: &Lists<'_, E>, passes: u64) -> u64 {
+    let once = |lists| raw_locations_once(lists).unwrap_or_else(|error| refused(error));
+    repeat!(1, repeat!(passes, once(black_box(lists))))
+}
+
+#[inline(always)]
+fn raw_locations_once<E: Order>(lists: &Lists<'_, E>) -> Result<u64, Error> {
+    let mut walk = lists.open_raw_locations()?;
+    let mut sum = 0u64;
+    while let Some(entry) = walk.next()? {
+        let (kind, first, second, expression) = location_numbers(entry);
+        sum = raw_sum(sum, kind, first, second);
+        if let Some(expression) = expression {
+            sum = sum.wrapping_add(lists.place_of(&expression)) ^ expression.0.len() as u64;
+        }
+    }
+    Ok(sum)
+}
+
+/// A row's section as gimli's reader.
+pub fn section<E: Order>(row: &Row) -> Slice<'_, E> {
+    EndianSlice::new(row.section, E::from(RunTimeEndian::Little))
+}
+
+#[inline(never)]
+pub fn numbers<E: Order>(section: Slice<'_, E>, passes: u64) -> u64 {
+    repeat!(passes, numbers_once(*black_box(&section)).unwrap_or_else(|error| refused(error)))
+}
+
+#[inline(always)]
+fn numbers_once<E: Order>(mut rest: Slice<'_, E>) -> Result<u64, Error> {
+    let mut sum = 0u64;
+    while !rest.is_empty() {
+        sum = sum.rotate_left(1) ^ rest.read_uleb128()?;
+    }
+    Ok(sum)
 }
 
 fn holds(range: &Range, address: u64) -> bool {
@@ -352,6 +471,37 @@ pub fn count_headers(lists: &Lists<'_, RunTimeEndian>) -> u64 {
     let mut headers = lists.table.headers();
     let mut count = 0;
     while headers.next().unwrap_or_else(|error| refused(error)).is_some() {
+        count += 1;
+    }
+    count
+}
+
+/// How many raw entries a list has, or numbers a section: another caller.
+#[inline(never)]
+pub fn count_raw_ranges(lists: &Lists<'_, SharedEntering>) -> u64 {
+    let mut walk = lists.open_raw_ranges().unwrap_or_else(|error| refused(error));
+    let mut count = 0;
+    while walk.next().unwrap_or_else(|error| refused(error)).is_some() {
+        count += 1;
+    }
+    count
+}
+
+#[inline(never)]
+pub fn count_raw_locations(lists: &Lists<'_, SharedEntering>) -> u64 {
+    let mut walk = lists.open_raw_locations().unwrap_or_else(|error| refused(error));
+    let mut count = 0;
+    while walk.next().unwrap_or_else(|error| refused(error)).is_some() {
+        count += 1;
+    }
+    count
+}
+
+#[inline(never)]
+pub fn count_numbers(mut rest: Slice<'_, SharedNumbering>) -> u64 {
+    let mut count = 0;
+    while !rest.is_empty() {
+        rest.read_uleb128().unwrap_or_else(|error| refused(error));
         count += 1;
     }
     count

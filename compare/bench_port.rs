@@ -43,6 +43,25 @@ fn file_type(row: &Row) -> u32 {
     if row.kind == Kind::SplitLocations { FILE_DWO } else { FILE_MAIN }
 }
 
+#[inline(always)]
+fn open_ranges(row: &Row, encoding: Encoding, offset: u64, walk: &mut Walk) {
+    let (s, n, ..) = lent(row);
+    let opened = unsafe { yz_range_open(s, n, encoding, offset, row.base_address, walk) };
+    if opened.result != DONE {
+        refused(opened.refusal);
+    }
+}
+
+#[inline(always)]
+fn open_locations(row: &Row, encoding: Encoding, offset: u64, walk: &mut Walk) {
+    let (s, n, ..) = lent(row);
+    let (file, base) = (file_type(row), row.base_address);
+    let opened = unsafe { yz_location_open(s, n, encoding, file, offset, base, walk) };
+    if opened.result != DONE {
+        refused(opened.refusal);
+    }
+}
+
 #[inline(never)]
 pub fn walk_ranges(row: &Row, passes: u64) -> u64 {
     let encoding = encoding(row);
@@ -67,10 +86,7 @@ fn walk_ranges_with(
 ) -> u64 {
     let ((s, n, t, m), encoding, table_base) = (lent(row), *encoding, row.table_base);
     let (mut walk, mut sum) = (Walk::default(), 0u64);
-    let opened = unsafe { yz_range_open(s, n, encoding, offset, row.base_address, &mut walk) };
-    if opened.result != DONE {
-        refused(opened.refusal);
-    }
+    open_ranges(row, encoding, offset, &mut walk);
     loop {
         let next = unsafe { yz_range_next(s, n, t, m, table_base, encoding, &mut walk) };
         match next.result {
@@ -105,11 +121,7 @@ fn walk_locations_with(
 ) -> u64 {
     let ((s, n, t, m), encoding, table_base) = (lent(row), *encoding, row.table_base);
     let (mut walk, mut sum) = (Walk::default(), 0u64);
-    let (file, base) = (file_type(row), row.base_address);
-    let opened = unsafe { yz_location_open(s, n, encoding, file, offset, base, &mut walk) };
-    if opened.result != DONE {
-        refused(opened.refusal);
-    }
+    open_locations(row, encoding, offset, &mut walk);
     loop {
         let next = unsafe { yz_location_next(s, n, t, m, table_base, encoding, &mut walk) };
         match next.result {
@@ -119,6 +131,79 @@ fn walk_locations_with(
         }
         behind(&mut walk);
     }
+}
+
+/// What a raw entry adds to a sum: its kind and its numbers.
+#[inline(always)]
+pub fn raw_sum(sum: u64, kind: u64, first: u64, second: u64) -> u64 {
+    (sum.rotate_left(1) ^ kind).wrapping_add(first) ^ second
+}
+
+#[inline(never)]
+pub fn raw_ranges(row: &Row, passes: u64) -> u64 {
+    let encoding = encoding(row);
+    repeat!(passes, raw_ranges_once(black_box(row), black_box(&encoding)))
+}
+
+#[inline(never)]
+fn raw_ranges_once(row: &Row, encoding: &Encoding) -> u64 {
+    let ((s, n, ..), encoding) = (lent(row), *encoding);
+    let (mut walk, mut sum) = (Walk::default(), 0u64);
+    open_ranges(row, encoding, row.offset, &mut walk);
+    loop {
+        let next = unsafe { yz_range_next_raw(s, n, encoding, &mut walk) };
+        let RangeEntry { kind, first, second } = next.item.entry;
+        match next.result {
+            DONE => sum = raw_sum(sum, kind, first, second),
+            END => return sum,
+            _ => refused(next.refusal),
+        }
+    }
+}
+
+#[inline(never)]
+pub fn raw_locations(row: &Row, passes: u64) -> u64 {
+    let encoding = encoding(row);
+    repeat!(passes, raw_locations_once(black_box(row), black_box(&encoding)))
+}
+
+#[inline(never)]
+fn raw_locations_once(row: &Row, encoding: &Encoding) -> u64 {
+    let ((s, n, ..), encoding) = (lent(row), *encoding);
+    let (mut walk, mut sum) = (Walk::default(), 0u64);
+    open_locations(row, encoding, row.offset, &mut walk);
+    loop {
+        let next = unsafe { yz_location_next_raw(s, n, encoding, &mut walk) };
+        let LocationEntry { kind, first, second, expression } = next.item.entry;
+        match next.result {
+            DONE => {
+                sum = raw_sum(sum, kind, first, second);
+                sum = sum.wrapping_add(expression.offset) ^ expression.length;
+            }
+            END => return sum,
+            _ => refused(next.refusal),
+        }
+    }
+}
+
+#[inline(never)]
+pub fn numbers(row: &Row, passes: u64) -> u64 {
+    repeat!(passes, numbers_once(black_box(row)))
+}
+
+#[inline(never)]
+fn numbers_once(row: &Row) -> u64 {
+    let (s, n, ..) = lent(row);
+    let (mut at, mut sum) = (0, 0u64);
+    while at < n {
+        let read = unsafe { yz_uleb128(s, n, at) };
+        if read.result != DONE {
+            refused(read.refusal);
+        }
+        sum = sum.rotate_left(1) ^ read.item.number;
+        at = read.item.next as usize;
+    }
+    sum
 }
 
 /// Sets a mark and returns to it, each time the next one.

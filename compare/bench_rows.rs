@@ -26,12 +26,16 @@ pub enum Task {
     Headers,
     /// The walk, and behind each entry a mark is set and returned to.
     Marks,
+    /// Open the list and call the raw `next` up to the end.
+    Raw,
+    /// LEB128 numbers, one after the other; the section holds nothing else.
+    Numbers,
 }
 
 /// A list, what its reading depends on, and the task. `yields` is how many
-/// ranges the list has, or tables the address section, `entries` how many
-/// entries the task reads; a time is divided by it. Bytes stay until the program ends, so that rows can share
-/// them.
+/// ranges the list has, or tables the address section, or numbers the section,
+/// `entries` how many entries the task reads; a time is divided by it. Bytes stay
+/// until the program ends, so that rows can share them.
 #[derive(Clone)]
 pub struct Row {
     pub name: String,
@@ -505,6 +509,51 @@ fn marks(rows: &mut Rows<'_>) {
     }
 }
 
+/// Raw entries by calls: with numbers and addresses, with numbers or addresses
+/// alone, and with neither. Each yields a range.
+fn raws(rows: &mut Rows<'_>) {
+    let plans = [
+        ("range-4", Kind::Ranges, OffsetPair, [8].as_slice()),
+        ("range-6", Kind::Ranges, StartEnd, &[4, 8]),
+        ("range-7", Kind::Ranges, StartLength, &[4, 8]),
+        ("range-bare", Kind::Ranges, BarePair, &[4, 8]),
+        ("location-4", Kind::Locations, OffsetPair, &[8]),
+        ("location-5", Kind::Locations, Default, &[8]),
+        ("location-7", Kind::Locations, StartEnd, &[4, 8]),
+        ("location-8", Kind::Locations, StartLength, &[4, 8]),
+        ("location-bare", Kind::Locations, BarePair, &[4, 8]),
+        ("split-4-3", Kind::SplitLocations, StartLengthIndex, &[8]),
+    ];
+    for (word, kind, form, sizes) in plans {
+        for &size in sizes {
+            let mut plan = Plan::new(kind, Pattern::All(form), size, false);
+            if kind == Kind::SplitLocations {
+                plan.version = 4;
+            }
+            for count in [3, 1000] {
+                let name = format!("raw-{word}-{size}-little-{count}");
+                rows.add(name, |name| Row { task: Task::Raw, ..plan.row(name, 0..count) });
+            }
+        }
+    }
+}
+
+/// LEB128 numbers of so many bytes each, in shortest form.
+fn numbers(rows: &mut Rows<'_>) {
+    let plan = Plan::new(Kind::Ranges, Pattern::Mixed, 8, false);
+    for width in [1, 2, 5] {
+        rows.add(format!("uleb128-{width}-1000"), |name| {
+            let mut writer =
+                Writer { out: Vec::new(), kind: Kind::Ranges, version: 5, size: 8, big: false };
+            let (least, below) = ((1 << (7 * (width - 1))) & !1, 1 << (7 * width));
+            (0..1000).for_each(|index| writer.uleb128(least + spread(index) % (below - least)));
+            let section = writer.out.leak();
+            let counted = Row { yields: 1000, entries: 1000, ..plan.row(name, 0..0) };
+            Row { task: Task::Numbers, section, offset: 0, ..counted }
+        });
+    }
+}
+
 pub fn rows(wanted: &dyn Fn(&str) -> bool) -> Vec<Row> {
     let mut rows = Rows { wanted, rows: Vec::new() };
     walks(&mut rows);
@@ -514,5 +563,7 @@ pub fn rows(wanted: &dyn Fn(&str) -> bool) -> Vec<Row> {
     headers(&mut rows);
     growth(&mut rows);
     marks(&mut rows);
+    raws(&mut rows);
+    numbers(&mut rows);
     rows.rows
 }

@@ -82,6 +82,7 @@ fn main() {
     rules(&mut check);
     counts(&mut check);
     marks(&mut check);
+    padded(&mut check);
     open_points(&mut check);
     differences(&mut check);
     println!("{} examples, {} differ", check.run, check.wrong);
@@ -534,6 +535,53 @@ fn marks(c: &mut Check) {
     let l = List { table: &table, table_base: 8, ..list(Kind::Ranges, &b) };
     let stated = [(refused(1, 0), [3, 0, 1]), (range(0x10, 0x18), [6, 0, 2]), (end, [7, 0, 3])];
     same("marks: set before a failed lookup", &l, 0, &stated);
+}
+
+/// gimli reads padded numbers by their values, and does not say that they are
+/// padded; how many bytes they took is told by the place after them.
+fn padded(c: &mut Check) {
+    use Form::*;
+    use Kind::{Locations, Ranges, SplitLocations};
+    let numbers = [
+        ("00", Ok((0, 1))),
+        ("7f", Ok((0x7f, 1))),
+        ("80 01", Ok((0x80, 2))),
+        ("80 00", Ok((0, 2))),
+        ("82 00", Ok((2, 2))),
+        ("ff 7f", Ok((0x3fff, 2))),
+        ("81 80 00", Ok((1, 3))),
+        ("ff ff ff ff ff ff ff ff ff 01", Ok((u64::MAX, 10))),
+        ("ff ff ff ff ff ff ff ff 7f", Ok((u64::MAX >> 1, 9))),
+        ("81 80 80 80 80 80 80 80 80 80 00", Err(no(2, 0))),
+        ("80", Err(no(1, 0))),
+    ];
+    for (text, stated) in numbers {
+        c.same(text, uleb128(&bytes(text)), stated);
+    }
+    // A raw entry, and the place after it.
+    let mut same = |kind, version, text: &str, entry, place| {
+        let b = bytes(text);
+        let mut w = RawWalk::open(&List { version, ..list(kind, &b) }).unwrap();
+        c.same(text, (w.next(), w.place()), (entry, place));
+    };
+    let bounds = |form, first, second| Answer::Entry(entry(form, first, second));
+    same(Ranges, 5, "04 01 82 00 00", bounds(OffsetPair, 1, 2), 4);
+    same(Ranges, 5, "04 81 00 02 00", bounds(OffsetPair, 1, 2), 4);
+    same(Ranges, 5, "01 80 00 00", bounds(BaseIndex, 0, 0), 3);
+    same(Ranges, 5, "07 10 00 00 00 90 00 00", bounds(StartLength, 0x10, 0x10), 7);
+    same(Ranges, 5, "04 80 00", refused(1, 0), 3);
+    // With an expression of a byte at a place.
+    let located = |form, first, second, offset| {
+        let expression = Some(Place { offset, length: 1 });
+        Answer::Entry(Raw { form, first, second, expression })
+    };
+    same(Locations, 5, "05 81 00 50 00", located(Default, 0, 0, 3), 4);
+    same(Locations, 5, "03 00 88 00 01 50 00", located(StartLengthIndex, 0, 8, 5), 6);
+    let mut split = |text, entry, place| same(SplitLocations, 4, text, entry, place);
+    split("03 00 08 00 00 00 01 00 50 00", located(StartLengthIndex, 0, 8, 8), 9);
+    split("03 80 00 08 00 00 00 01 00 50 00", located(StartLengthIndex, 0, 8, 9), 10);
+    split("04 81 00 82 00 01 00 50 00", located(OffsetPair, 1, 2, 7), 8);
+    split("08 10 00 00 00 81 00 01 00 50 00", located(StartLength, 0x10, 1, 9), 10);
 }
 
 fn open_points(c: &mut Check) {

@@ -5,7 +5,8 @@
 //! held to the page there. Where gimli refuses size 3 the reader is held to the
 //! model, and the calls are counted apart, too. How many entries a walk has
 //! read is held to gimli's raw walk, and a count that is handed in to the rule
-//! that it rises by as many, up to 2^64 - 1.
+//! that it rises by as many, up to 2^64 - 1. How long a number is, and whether it
+//! is padded, is the model's to say.
 
 use std::collections::BTreeMap;
 use std::fmt::Debug;
@@ -14,17 +15,34 @@ use generator::{Case, ConvertCase, ListCase, READ, Random, RawCase};
 use oracle::oracle_api::{self as gimli, *};
 
 use crate::added::{self, Added};
-use crate::measure::{Tables, Walk, gimli_reads};
+use crate::measure::{self, Tables, Walk, gimli_reads};
 use crate::model::Model;
 
 /// The first entry whose range holds an address, "not there", or a refusal.
 pub type Found = Answer<Yielded>;
 
+/// A LEB128 number: its value, the place after it, how many bytes it took, and
+/// whether a shorter form of it exists.
+#[derive(Debug, Clone, Copy, PartialEq, Eq)]
+pub struct Number {
+    pub value: u64,
+    pub next: u64,
+    pub length: u64,
+    pub padded: bool,
+}
+
+/// A raw entry, and whether some LEB128 number of it is padded.
+#[derive(Debug, Clone, Copy, PartialEq, Eq)]
+pub struct Noted {
+    pub entry: Raw,
+    pub padded: bool,
+}
+
 /// The calls compared. Walks go in by value and come back.
 pub trait Port: Sync {
     fn open(&self, list: &List) -> Result<State, Refusal>;
     fn next(&self, list: &List, walk: State) -> (Answer<Yielded>, State);
-    fn next_raw(&self, list: &List, walk: State) -> (Answer<Raw>, State);
+    fn next_raw(&self, list: &List, walk: State) -> (Answer<Noted>, State);
     fn convert_raw(&self, list: &List, walk: State, entry: Raw) -> (Converted, State);
 
     fn lookup(&self, list: &List, address: u64) -> Found {
@@ -71,7 +89,7 @@ pub trait Port: Sync {
     ) -> Result<u64, Refusal>;
     fn default_base(&self, kind: Kind, version: u16, dwarf64: bool, split_file: bool) -> u64;
 
-    fn uleb128(&self, bytes: &[u8]) -> Result<(u64, u64), Refusal>;
+    fn uleb128(&self, bytes: &[u8], at: u64) -> Result<Number, Refusal>;
     fn read_number(&self, bytes: &[u8], big_endian: bool, width: u8)
     -> Result<(u64, u64), Refusal>;
     fn read_address(&self, bytes: &[u8], big_endian: bool, size: u8)
@@ -275,11 +293,7 @@ pub fn compare(port: &impl Added, case: &Case, seed: u64, met: &mut Met) -> Resu
             count(met, "get_offset", oracle.err());
             met.same("get_offset", &oracle, &got)
         }
-        Case::Leb128(bytes) => {
-            let oracle = gimli::uleb128(bytes);
-            count(met, "uleb128", oracle.err());
-            met.same("uleb128", &oracle, &port.uleb128(bytes))
-        }
+        Case::Leb128(bytes) => number(port, bytes, 0, met),
         Case::Bytes(c) => {
             let (b, big, n) = (&c.bytes, c.big_endian, c.count);
             if c.width != 3 {
@@ -310,6 +324,18 @@ pub fn compare(port: &impl Added, case: &Case, seed: u64, met: &mut Met) -> Resu
             met.same("min_tombstone", &gimli::min_tombstone(size), &port.min_tombstone(size))
         }
     }
+}
+
+/// The number at a place.
+pub fn number(port: &impl Port, bytes: &[u8], at: u64, met: &mut Met) -> Result<(), String> {
+    let oracle = measure::uleb128(bytes, at);
+    met.met(match oracle {
+        Ok(Number { length, padded: true, .. }) => format!("uleb128 of length {length:2}, padded"),
+        Ok(Number { length, .. }) => format!("uleb128 of length {length:2}"),
+        Err(refusal) => format!("uleb128 refused {}", refusal.number),
+    });
+    met.same("uleb128", &oracle, &port.uleb128(bytes, at))
+        .map_err(|error| format!("{error}\n{bytes:x?} at {at}"))
 }
 
 fn count(met: &mut Met, call: &str, refusal: Option<Refusal>) {
@@ -383,8 +409,9 @@ pub fn walk(port: &impl Port, list: &List, seed: u64, met: &mut Met) -> Result<(
         met.same("walk after next_raw", &oracle.state(), &after)?;
         state = after;
         match answer {
-            Answer::Entry(entry) => {
-                met.met(format!("{what} raw {:?}", entry.form));
+            Answer::Entry(Noted { entry, padded }) => {
+                let how = if padded { ", padded" } else { "" };
+                met.met(format!("{what} raw {:?}{how}", entry.form));
                 if style == 1 || r.one_in(7, 8) {
                     state = convert_one(port, list, &mut oracle, state, entry, met)?;
                 }

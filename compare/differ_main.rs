@@ -2,15 +2,17 @@
 //! tables with every size and at places of every remainder, then the cases of as
 //! many seeds as are asked for, then for each of them a list that is walked with
 //! marks, then a case built for coverage, sheets and canonical lists for every
-//! twentieth of them. Last comes address size 3: every short list, and for every
-//! fourth of the seeds a case, a list that gimli reads up to an address, and one
-//! that it reads with size 4. A difference is printed, the last line has their
-//! number, and the exit status is 1 where there are any.
+//! twentieth of them. Then comes padding: every short string as a number and as
+//! the operands of an entry, a number for each seed, and a list for every fourth
+//! of them. Last comes address size 3: every short list, and for every fourth of
+//! the seeds a case, a list that gimli reads up to an address, and one that it
+//! reads with size 4. A difference is printed, the last line has their number, and
+//! the exit status is 1 where there are any.
 //!
 //!   differ [seeds [first seed]] [all] [model]
 //!
-//! With `all`, every list of up to three bytes, else up to two. With `model`,
-//! the model of the scope stands in for the port, to try the comparison.
+//! With `all`, every list or string of up to three bytes, else up to two. With
+//! `model`, the model of the scope stands in for the port, to try the comparison.
 
 mod added;
 mod built;
@@ -18,6 +20,7 @@ mod differ;
 mod marks;
 mod measure;
 mod model;
+mod padded;
 mod port;
 mod three;
 
@@ -132,11 +135,32 @@ fn run(port: &impl Added, seeds: u64, first: u64, all: bool) {
         let seed = first.wrapping_add(index);
         built::compare(port, seed, met).map_err(|error| format!("built, seed {seed}: {error}"))
     }));
+    total.join(part(short, "short strings as numbers", |index, met| {
+        let (bytes, length) = generator::short_list(index as u32);
+        padded::numbers(port, &bytes[..length], &[0x81, 0x80], met)
+    }));
+    total.join(part(short, "short strings in entries", |index, met| {
+        let (bytes, length) = generator::short_list(index as u32);
+        padded::short_entries(port, &bytes[..length], met)
+    }));
+    total.join(part(seeds, &format!("numbers from seed {first}"), |index, met| {
+        let seed = first.wrapping_add(index);
+        let before = &[0x80; 12][..1 + seed as usize % 12];
+        padded::numbers(port, &generator::padded_number(seed), before, met)
+            .map_err(|error| format!("number, seed {seed}: {error}"))
+    }));
+    let fourth = seeds.div_ceil(4);
+    let name = format!("lists with padded numbers from seed {first}");
+    total.join(part(fourth, &name, |index, met| {
+        let seed = first.wrapping_add(index);
+        let case = generator::padded_list(seed);
+        padded::list(port, &case, seed, met)
+            .map_err(|error| format!("padded, seed {seed}: {error}\n{case:x?}"))
+    }));
     total.join(part(short, "short lists at size 3", |index, met| {
         let (bytes, length) = generator::short_list(index as u32);
         three::short(port, &bytes[..length], met)
     }));
-    let fourth = seeds.div_ceil(4);
     total.join(part(fourth, &format!("cases at size 3 from seed {first}"), |index, met| {
         let seed = first.wrapping_add(index);
         let case = generator::case(seed, &[3]);

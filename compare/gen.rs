@@ -216,6 +216,8 @@ enum Wild {
     Tame,
     /// Numbers at every boundary, padded forms; every entry is well made.
     Edges,
+    /// The same, with more padded forms.
+    Padded,
     /// Also overlong numbers, unknown kinds, wrong lengths.
     Broken,
 }
@@ -346,7 +348,12 @@ impl Writer {
             self.out.push(tenth);
             return;
         }
-        let least = if wild == Wild::Tame || r.one_in(3, 4) { 1 } else { 1 + r.below(10) };
+        let shortest = match wild {
+            Wild::Tame => true,
+            Wild::Edges | Wild::Broken => r.one_in(3, 4),
+            Wild::Padded => r.one_in(1, 2),
+        };
+        let least = if shortest { 1 } else { 1 + r.below(10) };
         self.leb128(value, least as usize);
     }
 }
@@ -676,6 +683,25 @@ pub fn list_case(r: &mut Random, sizes: &[u8]) -> ListCase {
     list
 }
 
+/// A list with many padded numbers, whole, cut or damaged behind its beginning.
+pub fn padded_list(seed: u64) -> ListCase {
+    let r = &mut Random::new(seed);
+    let size = r.pick(&READ);
+    let (mut list, mut w, table) = list(r, size, Wild::Padded);
+    list.table = table.out;
+    let start = list.offset as usize;
+    let mut entries = w.out.split_off(start);
+    match r.below(8) {
+        0 => entries.truncate(r.below(entries.len() as u64 + 1) as usize),
+        1 => damage(r, &mut entries),
+        _ => {}
+    }
+    w.out.extend(entries);
+    (list.old, list.new) =
+        if list.version <= 4 { (w.out, Vec::new()) } else { (Vec::new(), w.out) };
+    list
+}
+
 /// The length of the section that is chosen.
 fn length(list: &ListCase) -> u64 {
     if list.version <= 4 { list.old.len() as u64 } else { list.new.len() as u64 }
@@ -863,6 +889,46 @@ pub fn leb128_case(r: &mut Random) -> Vec<u8> {
     }
     let more = r.below(4);
     w.out.extend(r.bytes(more));
+    w.out
+}
+
+/// Bytes read as an unsigned LEB128 number, mostly a padded one: of each length,
+/// by 0 to 9 bytes, and so past the tenth; with each sort of tenth byte; or of
+/// bytes that pad or end a number.
+pub fn padded_number(seed: u64) -> Vec<u8> {
+    let r = &mut Random::new(seed);
+    let mut w = Writer::new(Vec::new(), false);
+    match r.below(4) {
+        0 | 1 => {
+            let width = 1 + r.below(10);
+            let least = 1 << (7 * (width - 1)) & !1;
+            let most = u64::MAX >> 64u64.saturating_sub(7 * width);
+            let value = match r.below(4) {
+                0 => least,
+                1 => most,
+                _ => least + r.below(most - least + 1),
+            };
+            w.leb128(value, (width + r.below(10)) as usize);
+        }
+        2 => {
+            let bytes = r.bytes(9);
+            let zeros = r.below(10) as usize;
+            w.out.extend(bytes.iter().map(|byte| byte | 0x80));
+            w.out[9 - zeros..].fill(0x80);
+            w.out.push(r.pick(&[0x00, 0x01, 0x02, 0x7f, 0x80, 0x81, 0xff]));
+        }
+        _ => {
+            let length = 1 + r.below(12);
+            w.out.extend((0..length).map(|_| r.pick(&[0, 1, 0x7f, 0x80, 0x80, 0x80, 0x81, 0xff])));
+        }
+    }
+    if r.one_in(1, 8) {
+        let cut = r.below(w.out.len() as u64) as usize;
+        w.out.truncate(cut);
+    } else {
+        let more = r.below(4);
+        w.out.extend(r.bytes(more));
+    }
     w.out
 }
 

@@ -8,7 +8,8 @@ use generator::{ListCase, Random};
 use oracle::oracle_api::*;
 
 use crate::added::{Added, Marks, Words, no};
-use crate::differ::{Met, entry_of, kind_and_version, list_of, size_not_read, walk_by_hand};
+use crate::differ::{Met, Noted, entry_of, kind_and_version};
+use crate::differ::{list_of, size_not_read, walk_by_hand};
 use crate::measure::Walk;
 
 #[derive(Debug, Clone, Copy)]
@@ -29,7 +30,7 @@ enum Step {
 #[derive(Debug, Clone, Copy, PartialEq)]
 enum Told {
     Next(Answer<Yielded>),
-    NextRaw(Answer<Raw>),
+    NextRaw(Answer<Noted>),
     ConvertRaw(Converted),
 }
 
@@ -144,8 +145,8 @@ impl<'a, P: Added> Marked<'a, P> {
         met.same("read, with marks", &due, &left)?;
         self.words = words(left.1, self.words[3]);
         self.reads.last_mut().expect("a part").push((call, left));
-        if let Told::NextRaw(Answer::Entry(entry)) = left.0 {
-            self.entry = Some(entry);
+        if let Told::NextRaw(Answer::Entry(noted)) = left.0 {
+            self.entry = Some(noted.entry);
         }
         Ok(left)
     }

@@ -1,8 +1,10 @@
 //! Whose answers count: gimli's, and the model's at address sizes that gimli
-//! refuses: at 3, and, for walks made by hand, at those that aren't read.
+//! refuses: at 3, and, for walks made by hand, at those that aren't read. Of
+//! numbers and raw entries gimli tells no padding: that is the model's, which has
+//! to read the same number or entry there.
 
-use crate::differ::Port;
-use crate::model::Model;
+use crate::differ::{Noted, Number, Port};
+use crate::model::{self, Model};
 use generator::SIZES;
 use oracle::oracle_api::{self as gimli, *};
 
@@ -16,9 +18,40 @@ fn moved<T>((answer, after): (T, State), state: &mut State) -> T {
     answer
 }
 
+/// gimli's number at a place, with the model's length and padding.
+pub fn uleb128(bytes: &[u8], at: u64) -> Result<Number, Refusal> {
+    let rest = bytes.get(at as usize..).ok_or(Refusal { number: 1, value: 0 })?;
+    let (value, taken) = gimli::uleb128(rest)?;
+    let plain = Model.uleb128(bytes, at).expect("a number");
+    assert_eq!((value, at + taken), (plain.value, plain.next));
+    Ok(plain)
+}
+
+/// gimli's entry at a place of a list, with the model's padding.
+pub fn noted(list: &List, place: u64, entry: Raw) -> Noted {
+    let (read, padded) = model::entry(list, place).expect("an entry");
+    assert_eq!(entry, read);
+    Noted { entry, padded: padded != 0 }
+}
+
+/// gimli's raw answers about a list from its opening on, with the model's
+/// padding; what comes with each stays.
+pub fn noted_answers<T>(
+    list: &List,
+    answers: impl IntoIterator<Item = (Answer<Raw>, T)>,
+) -> impl Iterator<Item = (Answer<Noted>, T)> {
+    let mut state = State { place: list.offset, base_address: 0, entries: 0 };
+    answers.into_iter().map(move |(answer, with)| {
+        let place = state.place;
+        state = Model.next_raw(list, state).1;
+        (answer.map(|entry| noted(list, place, entry)), with)
+    })
+}
+
 /// A walk of gimli's, or the model's, the count that the walk was handed in with,
 /// and how far past the section's end it stands.
 pub struct Walk<'a> {
+    list: List<'a>,
     by: By<'a>,
     pub from: u64,
     past: u64,
@@ -26,7 +59,7 @@ pub struct Walk<'a> {
 
 enum By<'a> {
     Gimli(gimli::Walk<'a>),
-    Model(List<'a>, State),
+    Model(State),
 }
 
 impl<'a> Walk<'a> {
@@ -34,41 +67,44 @@ impl<'a> Walk<'a> {
         let by = if gimli_reads(list.address_size) {
             gimli::Walk::open(list).map(By::Gimli)
         } else {
-            Model.open(list).map(|state| By::Model(*list, state))
+            Model.open(list).map(By::Model)
         };
-        by.map(|by| Walk { by, from: 0, past: 0 })
+        by.map(|by| Walk { list: *list, by, from: 0, past: 0 })
     }
 
     /// A walk made by hand. gimli's is one that is opened at the place; past the
     /// end it has none, and the one at the end moves as little.
     pub fn by_hand(list: &List<'a>, state: State) -> Walk<'a> {
         if !gimli_reads(list.address_size) {
-            return Walk { by: By::Model(*list, state), from: 0, past: 0 };
+            return Walk { list: *list, by: By::Model(state), from: 0, past: 0 };
         }
         let offset = state.place.min(list.section().len() as u64);
         let list = List { offset, base_address: state.base_address, ..*list };
         let walk = gimli::Walk::open(&list).expect("a place of the section");
-        Walk { by: By::Gimli(walk), from: state.entries, past: state.place - offset }
+        Walk { list, by: By::Gimli(walk), from: state.entries, past: state.place - offset }
     }
 
     pub fn next(&mut self) -> Answer<Yielded> {
         match &mut self.by {
             By::Gimli(walk) => walk.next(),
-            By::Model(list, state) => moved(Model.next(list, *state), state),
+            By::Model(state) => moved(Model.next(&self.list, *state), state),
         }
     }
 
-    pub fn next_raw(&mut self) -> Answer<Raw> {
+    pub fn next_raw(&mut self) -> Answer<Noted> {
         match &mut self.by {
-            By::Gimli(walk) => walk.next_raw(),
-            By::Model(list, state) => moved(Model.next_raw(list, *state), state),
+            By::Gimli(walk) => {
+                let place = walk.state().place;
+                walk.next_raw().map(|entry| noted(&self.list, place, entry))
+            }
+            By::Model(state) => moved(Model.next_raw(&self.list, *state), state),
         }
     }
 
     pub fn convert_raw(&mut self, entry: Raw) -> Converted {
         match &mut self.by {
             By::Gimli(walk) => walk.convert_raw(entry),
-            By::Model(list, state) => moved(Model.convert_raw(list, *state, entry), state),
+            By::Model(state) => moved(Model.convert_raw(&self.list, *state, entry), state),
         }
     }
 
@@ -76,7 +112,7 @@ impl<'a> Walk<'a> {
     pub fn state(&mut self) -> State {
         let state = match &mut self.by {
             By::Gimli(walk) => walk.state(),
-            By::Model(_, state) => *state,
+            By::Model(state) => *state,
         };
         State {
             place: state.place + self.past,

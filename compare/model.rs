@@ -3,7 +3,7 @@
 //! Slow and short; it shares nothing with gimli's code.
 
 use crate::added::{self, Added, Kept, MOST, Marks, Ranges, Words, Wrote};
-use crate::differ::Port;
+use crate::differ::{Noted, Number, Port};
 use oracle::oracle_api::{
     Answer, Converted, Form, Kind, List, Lists, Place, Raw, Refusal, State, Table, Yielded,
 };
@@ -47,8 +47,9 @@ impl<'a> Bytes<'a> {
         Ok((0..part.len()).map(|i| byte(i) << (8 * i)).sum())
     }
 
-    fn leb128(&mut self) -> Got<u64> {
-        let mut sum = 0;
+    /// A number that has a shorter form is padded; it ends in 00 and isn't 00 alone.
+    fn leb128(&mut self) -> Got<Number> {
+        let (start, mut sum) = (self.at, 0);
         for i in 0..10 {
             let byte = self.fixed(1)?;
             if i == 9 && byte > 1 {
@@ -59,7 +60,10 @@ impl<'a> Bytes<'a> {
                 break;
             }
         }
-        Ok(sum)
+        let length = (self.at - start) as u64;
+        let padded = shortest(sum) < length;
+        assert_eq!(padded, length > 1 && self.all[self.at - 1] == 0);
+        Ok(Number { value: sum, next: self.at as u64, length, padded })
     }
 
     fn address(&mut self, size: u8) -> Got<u64> {
@@ -95,6 +99,16 @@ impl<'a> Bytes<'a> {
         self.at = cut.at;
         Ok((length, dwarf64, size, end))
     }
+}
+
+/// How many bytes the shortest form of a number has: one for each seven bits.
+fn shortest(mut value: u64) -> u64 {
+    let mut bytes = 1;
+    while value > 0x7f {
+        value >>= 7;
+        bytes += 1;
+    }
+    bytes
 }
 
 fn lawful(size: u8) -> bool {
@@ -149,15 +163,18 @@ fn chosen<'a>(list: &List<'a>) -> &'a [u8] {
     if list.version <= 4 { list.old } else { list.new }
 }
 
-fn expression(bytes: &mut Bytes, old: bool) -> Got<Option<Place>> {
-    let length = if old { bytes.fixed(2)? } else { bytes.leb128()? };
+fn expression(bytes: &mut Bytes, length: u64) -> Got<Option<Place>> {
     let offset = bytes.at as u64;
     bytes.part(length)?;
     Ok(Some(Place { offset, length }))
 }
 
+/// A bit for each LEB128 number of an entry, from the first on: 1 where it is
+/// padded.
+type Padded = u8;
+
 /// A raw entry, or none for the end mark.
-fn raw(list: &List, bytes: &mut Bytes) -> Got<Option<Raw>> {
+fn raw(list: &List, bytes: &mut Bytes) -> Got<Option<(Raw, Padded)>> {
     let (size, old, located) = (list.address_size, list.version <= 4, list.kind != Kind::Ranges);
     if old && list.kind != Kind::SplitLocations {
         let (first, second) = (bytes.address(size)?, bytes.address(size)?);
@@ -165,10 +182,16 @@ fn raw(list: &List, bytes: &mut Bytes) -> Got<Option<Raw>> {
             return Ok(None);
         }
         if u128::from(first) == beyond(size) - 1 {
-            return Ok(Some(Raw { form: Form::Base, first: second, second: 0, expression: None }));
+            let base = Raw { form: Form::Base, first: second, second: 0, expression: None };
+            return Ok(Some((base, 0)));
         }
-        let expression = if located { expression(bytes, true)? } else { None };
-        return Ok(Some(Raw { form: Form::BarePair, first, second, expression }));
+        let expression = if located {
+            let length = bytes.fixed(2)?;
+            expression(bytes, length)?
+        } else {
+            None
+        };
+        return Ok(Some((Raw { form: Form::BarePair, first, second, expression }, 0)));
     }
     let code = bytes.fixed(1)?;
     if code == 0 {
@@ -179,17 +202,35 @@ fn raw(list: &List, bytes: &mut Bytes) -> Got<Option<Raw>> {
     let Some((form, operands, described)) = known else {
         return no(if located { 4 } else { 3 }, code);
     };
+    let (mut padded, mut bit) = (0, 1);
+    let mut leb128 = |bytes: &mut Bytes| {
+        let number = bytes.leb128()?;
+        padded |= if number.padded { bit } else { 0 };
+        bit <<= 1;
+        Ok(number.value)
+    };
     let mut numbers = [0; 2];
     for (number, operand) in numbers.iter_mut().zip(operands) {
         *number = match operand {
             Operand::Address => bytes.address(size)?,
             Operand::Length if located && old => bytes.fixed(4)?,
-            Operand::Length | Operand::Leb => bytes.leb128()?,
+            Operand::Length | Operand::Leb => leb128(bytes)?,
         };
     }
-    let expression = if located && described { expression(bytes, old)? } else { None };
+    let expression = if located && described {
+        let length = if old { bytes.fixed(2)? } else { leb128(bytes)? };
+        expression(bytes, length)?
+    } else {
+        None
+    };
     let [first, second] = numbers;
-    Ok(Some(Raw { form, first, second, expression }))
+    Ok(Some((Raw { form, first, second, expression }, padded)))
+}
+
+/// The raw entry at a place of a list, and which of its numbers are padded.
+pub fn entry(list: &List, place: u64) -> Option<(Raw, Padded)> {
+    let mut bytes = Bytes::at(chosen(list), place, list.big_endian).ok()?;
+    raw(list, &mut bytes).ok()?
 }
 
 /// A range, or none for a base or a skipped range.
@@ -254,7 +295,7 @@ impl Port for Model {
             let (answer, after) = self.next_raw(list, walk);
             walk = after;
             let entry = match answer {
-                Answer::Entry(entry) => entry,
+                Answer::Entry(noted) => noted.entry,
                 Answer::End => return (Answer::End, walk),
                 Answer::Refused(refusal) => return (Answer::Refused(refusal), walk),
             };
@@ -266,7 +307,7 @@ impl Port for Model {
         }
     }
 
-    fn next_raw(&self, list: &List, walk: State) -> (Answer<Raw>, State) {
+    fn next_raw(&self, list: &List, walk: State) -> (Answer<Noted>, State) {
         let section = chosen(list);
         let length = section.len() as u64;
         let emptied = State { place: length, ..walk };
@@ -279,8 +320,9 @@ impl Port for Model {
         let mut bytes = Bytes { all: section, at: walk.place as usize, big: list.big_endian };
         let entries = walk.entries.saturating_add(1);
         match raw(list, &mut bytes) {
-            Ok(Some(entry)) => {
-                (Answer::Entry(entry), State { place: bytes.at as u64, entries, ..walk })
+            Ok(Some((entry, padded))) => {
+                let noted = Noted { entry, padded: padded != 0 };
+                (Answer::Entry(noted), State { place: bytes.at as u64, entries, ..walk })
             }
             Ok(None) => (Answer::End, State { entries, ..emptied }),
             Err(refusal) => (Answer::Refused(refusal), emptied),
@@ -370,9 +412,8 @@ impl Port for Model {
         }
     }
 
-    fn uleb128(&self, bytes: &[u8]) -> Got<(u64, u64)> {
-        let mut bytes = whole(bytes, false);
-        Ok((bytes.leb128()?, bytes.at as u64))
+    fn uleb128(&self, bytes: &[u8], at: u64) -> Got<Number> {
+        Bytes::at(bytes, at, false)?.leb128()
     }
 
     fn read_number(&self, bytes: &[u8], big: bool, width: u8) -> Got<(u64, u64)> {

@@ -7,7 +7,7 @@
 mod ffi;
 
 use crate::added::{Added, Kept, Marks, Words, Wrote};
-use crate::differ::{Found, Port};
+use crate::differ::{Found, Noted, Number, Port};
 pub use ffi::LIMIT;
 use ffi::*;
 use oracle::oracle_api::{
@@ -164,6 +164,12 @@ fn raw_location(entry: LocationEntry) -> Raw {
     Raw { form, first, second, expression: located.then_some(place(expression)) }
 }
 
+/// A word that is 1 or 0.
+fn flag(word: u64) -> bool {
+    assert!(word < 2);
+    word == 1
+}
+
 impl Port for Ffi {
     fn open(&self, list: &List) -> Result<State, Refusal> {
         let (s, n, ..) = lent(list);
@@ -197,14 +203,17 @@ impl Port for Ffi {
         (next, state(list, walk))
     }
 
-    fn next_raw(&self, list: &List, from: State) -> (Answer<Raw>, State) {
+    fn next_raw(&self, list: &List, from: State) -> (Answer<Noted>, State) {
         let ((s, n, ..), mut walk) = (lent(list), walk(list, from));
         let encoding = encoding(list);
         let next = if list.kind == Kind::Ranges {
-            answer(unsafe { yz_range_next_raw(s, n, encoding, &mut walk) }, END, raw_range)
+            let next = unsafe { yz_range_next_raw(s, n, encoding, &mut walk) };
+            answer(next, END, |RawRange { entry, padded }| (raw_range(entry), padded))
         } else {
-            answer(unsafe { yz_location_next_raw(s, n, encoding, &mut walk) }, END, raw_location)
+            let next = unsafe { yz_location_next_raw(s, n, encoding, &mut walk) };
+            answer(next, END, |RawLocation { entry, padded }| (raw_location(entry), padded))
         };
+        let next = next.map(|(entry, padded)| Noted { entry, padded: flag(padded) });
         (next, state(list, walk))
     }
 
@@ -329,8 +338,11 @@ impl Port for Ffi {
         }
     }
 
-    fn uleb128(&self, bytes: &[u8]) -> Result<(u64, u64), Refusal> {
-        read(unsafe { yz_uleb128(bytes.as_ptr(), bytes.len(), 0) })
+    fn uleb128(&self, bytes: &[u8], at: u64) -> Result<Number, Refusal> {
+        result(unsafe { yz_uleb128(bytes.as_ptr(), bytes.len(), at as usize) }, |read| {
+            let Leb128 { next, number: value, length, padded } = read;
+            Number { value, next, length, padded: flag(padded) }
+        })
     }
 
     fn read_number(&self, bytes: &[u8], big: bool, width: u8) -> Result<(u64, u64), Refusal> {
@@ -358,8 +370,7 @@ impl Port for Ffi {
 
     fn initial_length(&self, bytes: &[u8], big: bool) -> Result<(u64, bool, u64), Refusal> {
         result(unsafe { yz_initial_length(bytes.as_ptr(), bytes.len(), big, 0) }, |unit| {
-            assert!(unit.dwarf64 < 2);
-            (unit.length, unit.dwarf64 == 1, unit.next)
+            (unit.length, flag(unit.dwarf64), unit.next)
         })
     }
 

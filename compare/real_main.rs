@@ -27,10 +27,11 @@ use std::fmt::Debug;
 use std::path::Path;
 
 use added::Added;
-use differ::{Met, Port};
+use differ::{Met, Noted, Port};
 use dumps::{Dumped, Shown, Unit};
 use elf::Elf;
 use generator::Random;
+use measure::noted;
 use oracle::oracle_api::{self as gimli, *};
 
 /// A line of the table.
@@ -49,8 +50,10 @@ struct Row {
     left_out: u64,
     refused: u64,
     differences: u64,
-    /// How often each form of a raw entry was met.
+    /// How often each form of a raw entry was met, and how many entries have a
+    /// padded number.
     forms: BTreeMap<String, u64>,
+    padded: u64,
     /// What the lists are read with, for the benchmark.
     listed: String,
 }
@@ -70,6 +73,7 @@ impl Row {
         for (form, count) in &other.forms {
             *self.forms.entry(form.clone()).or_default() += count;
         }
+        self.padded += other.padded;
         self.listed.push_str(&other.listed);
     }
 
@@ -183,7 +187,7 @@ fn walk_raw(port: &impl Port, list: &List, row: &mut Row, walked: &mut Walked) {
     let (Ok(mut oracle), Ok(mut state)) = (Walk::open(list), port.open(list)) else { return };
     let mut ends = 0;
     while ends < ENDS {
-        let answer = oracle.next_raw();
+        let answer = oracle.next_raw().map(|entry| noted(list, state.place, entry));
         let (got, after) = port.next_raw(list, state);
         if !row.same("next_raw", &(answer, oracle.state()), &(got, after)) {
             return;
@@ -192,8 +196,9 @@ fn walk_raw(port: &impl Port, list: &List, row: &mut Row, walked: &mut Walked) {
             walked.end = state.place;
         }
         match got {
-            Answer::Entry(entry) => {
+            Answer::Entry(Noted { entry, padded }) => {
                 walked.raw.push((state.place, entry));
+                row.padded += u64::from(padded);
                 let converted = oracle.convert_raw(entry);
                 let (got, after) = port.convert_raw(list, after, entry);
                 row.same("convert_raw", &(converted, oracle.state()), &(got, after));
@@ -799,6 +804,7 @@ fn run(port: &impl Added, builds: &str) -> Row {
     for (form, count) in &all.forms {
         println!("{count:>12} {form}");
     }
+    println!("{:>12} with a padded number", all.padded);
     println!(
         "raw, ranges: lists held against llvm-dwarfdump's entries and ranges; places, ranges: \
          against readelf's; left: printed lists that the tool is known to read otherwise; \

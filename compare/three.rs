@@ -7,7 +7,8 @@ use oracle::oracle_api::{self as gimli, *};
 
 use crate::added::{self, Added};
 use crate::built;
-use crate::differ::{self, Met, Port, follow, kind_and_version, list_of};
+use crate::differ::{self, Met, Noted, Port, follow, kind_and_version, list_of};
+use crate::measure::noted_answers;
 
 /// Walks one short list as every kind, version 4 and 5, in both orders, answers
 /// and counts. No address fits in, so the list is also walked as what follows the
@@ -69,7 +70,7 @@ pub fn up_to_an_address(port: &impl Port, case: &ListCase, met: &mut Met) -> Res
     let answers = gimli::walk_raw_counted(list).into_iter();
     let answers = answers.take_while(|(answer, _)| *answer != Answer::Refused(THREE));
     let next = |state| port.next_raw(list, state);
-    follow("next_raw", answers, port.open(list), next, met)
+    follow("next_raw", noted_answers(list, answers), port.open(list), next, met)
 }
 
 /// Walks a list of size 3, and has gimli walk the same list of size 4, where
@@ -93,7 +94,7 @@ pub fn widened(
         (yielded(three, got), after)
     };
     follow("next", told, port.open(three), next, met)?;
-    let told = gimli::walk_raw_counted(four).into_iter();
+    let told = noted_answers(four, gimli::walk_raw_counted(four));
     let told = told.map(|(answer, entries)| (raw(four, answer), entries));
     let next = |state| {
         let (got, after) = port.next_raw(three, state);
@@ -113,8 +114,13 @@ fn yielded<'a>(list: &List<'a>, answer: Answer<Yielded>) -> Answer<(u64, u64, Op
     answer.map(|entry| (entry.begin, entry.end, expression(list, entry.expression)))
 }
 
-fn raw<'a>(list: &List<'a>, answer: Answer<Raw>) -> Answer<(Form, u64, u64, Option<&'a [u8]>)> {
-    answer.map(|entry| (entry.form, entry.first, entry.second, expression(list, entry.expression)))
+/// A raw entry's form, its numbers, its expression, and whether it is padded.
+type Written<'a> = (Form, u64, u64, Option<&'a [u8]>, bool);
+
+fn raw<'a>(list: &List<'a>, answer: Answer<Noted>) -> Answer<Written<'a>> {
+    answer.map(|Noted { entry, padded }| {
+        (entry.form, entry.first, entry.second, expression(list, entry.expression), padded)
+    })
 }
 
 /// Whether the two tables have the same rows, and every entry that gimli reads

@@ -61,6 +61,18 @@ impl<'a> Expression<'a> {
     }
 }
 
+/// An entry as it is written, and what is noted of it.
+#[derive(Debug, Clone, Copy, PartialEq, Eq, Hash)]
+pub struct Noted<E> {
+    /// The entry.
+    pub entry: E,
+    /// Whether at least one LEB128 number of the entry is padded, as [`Leb128`](super::Leb128) says it.
+    /// LEB128 are indexes, the numbers of an offset pair, and lengths; but that of a location list's
+    /// `StartxLength` and that of an expression only from version 5 on, before which they have four and
+    /// two bytes. These, addresses and bare pairs are never padded, whatever their bytes.
+    pub padded: bool,
+}
+
 /// An entry of a range list as it is written.
 #[derive(Debug, Clone, Copy, PartialEq, Eq, Hash)]
 #[allow(missing_docs)]

@@ -69,12 +69,15 @@ structs! {
 
     /// What answers hold behind the refusal.
     Read { next: u64, number: u64, }
+    Leb128 { next: u64, number: u64, length: u64, padded: u64, }
     SplitPart { next: u64, part: Part, }
     UnitLength { next: u64, length: u64, dwarf64: u64, }
     TableHeader { encoding: Encoding, offset: u64, length: u64, entries: Part, }
     ListsHeader { encoding: Encoding, offset_entry_count: u64, header_size: u64, rest: Part, }
     Range { begin: u64, end: u64, }
     Location { begin: u64, end: u64, expression: Part, }
+    RawRange { entry: RangeEntry, padded: u64, }
+    RawLocation { entry: LocationEntry, padded: u64, }
 }
 
 /// An answer. The result is a number, so that one that is not known here does no harm.
@@ -108,27 +111,31 @@ pinned! {
     Done: 16, result 0, refusal 4, refusal_value 8, item 16;
     Answer<u64>: 24, item 16;
     Answer<Read>: 32, item 16;
+    Answer<Leb128>: 48, item 16;
     Answer<SplitPart>: 40, item 16;
     Answer<UnitLength>: 40, item 16;
     Answer<TableHeader>: 56, item 16;
     Answer<ListsHeader>: 56, item 16;
     Answer<Range>: 32, item 16;
     Answer<Location>: 48, item 16;
-    Answer<RangeEntry>: 40, item 16;
-    Answer<LocationEntry>: 56, item 16;
+    Answer<RawRange>: 48, item 16;
+    Answer<RawLocation>: 64, item 16;
     Read: 16, next 0, number 8;
+    Leb128: 32, next 0, number 8, length 16, padded 24;
     SplitPart: 24, next 0, part 8;
     UnitLength: 24, next 0, length 8, dwarf64 16;
     TableHeader: 40, encoding 0, offset 8, length 16, entries 24;
     ListsHeader: 40, encoding 0, offset_entry_count 8, header_size 16, rest 24;
     Range: 16, begin 0, end 8;
     Location: 32, begin 0, end 8, expression 16;
+    RawRange: 32, entry 0, padded 24;
+    RawLocation: 48, entry 0, padded 40;
 }
 
 unsafe extern "C" {
     pub safe fn yz_version() -> u32;
 
-    pub fn yz_uleb128(s: Ptr, n: usize, at: usize) -> Answer<Read>;
+    pub fn yz_uleb128(s: Ptr, n: usize, at: usize) -> Answer<Leb128>;
     pub fn yz_read_u8(s: Ptr, n: usize, at: usize) -> Answer<Read>;
     pub fn yz_read_u16(s: Ptr, n: usize, big_endian: bool, at: usize) -> Answer<Read>;
     pub fn yz_read_u32(s: Ptr, n: usize, big_endian: bool, at: usize) -> Answer<Read>;
@@ -171,7 +178,7 @@ unsafe extern "C" {
     ) -> Answer<Range>;
     pub fn yz_range_next_raw(
         s: Ptr, n: usize, encoding: Encoding, walk: &mut Walk,
-    ) -> Answer<RangeEntry>;
+    ) -> Answer<RawRange>;
     pub fn yz_range_convert_raw(
         t: Ptr, m: usize, table_base: u64, encoding: Encoding, entry: RangeEntry, walk: &mut Walk,
     ) -> Answer<Range>;
@@ -184,7 +191,7 @@ unsafe extern "C" {
     ) -> Answer<Location>;
     pub fn yz_location_next_raw(
         s: Ptr, n: usize, encoding: Encoding, walk: &mut Walk,
-    ) -> Answer<LocationEntry>;
+    ) -> Answer<RawLocation>;
     pub fn yz_location_convert_raw(
         t: Ptr, m: usize, table_base: u64, encoding: Encoding, entry: LocationEntry,
         walk: &mut Walk,

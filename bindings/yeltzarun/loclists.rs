@@ -6,7 +6,7 @@ use super::walk::{Table, Written};
 use super::{
     CanonicalList, Coverage, DebugAddr, DebugAddrBase, DebugLoc, DebugLocLists, DebugLocListsBase,
     DebugLocListsIndex, DwarfFileType, Encoding, EndianSlice, LocationListEntry,
-    LocationListsOffset, Range, RawLocListEntry, Result,
+    LocationListsOffset, Noted, Range, RawLocListEntry, Result,
 };
 
 /// The sections with location lists.
@@ -264,12 +264,19 @@ impl<'a> RawLocListIter<'a> {
     /// The next entry; after a refusal the list is over.
     #[allow(clippy::should_implement_trait)]
     pub fn next(&mut self) -> Result<Option<RawLocListEntry<'a>>> {
+        Ok(self.next_noted()?.map(|noted| noted.entry))
+    }
+
+    /// The same, and whether some LEB128 number of the entry is padded.
+    pub fn next_noted(&mut self) -> Result<Option<Noted<RawLocListEntry<'a>>>> {
         let l = self.list;
         // SAFETY: pointer and length are of one slice.
         let answer =
             unsafe { ffi::yz_location_next_raw(l.ptr(), l.len(), l.encoding, &mut self.walk) };
-        let entry = answer.done_unless(ffi::END)?;
-        entry.map(|entry| RawLocListEntry::of(l.section, entry)).transpose()
+        let Some(ffi::RawLocation { entry, padded }) = answer.done_unless(ffi::END)? else {
+            return Ok(None);
+        };
+        Ok(Some(Noted { entry: RawLocListEntry::of(l.section, entry)?, padded: padded != 0 }))
     }
 
     /// Where the walk stands in its section: behind the entry read last, or at the section's end.
@@ -308,6 +315,11 @@ impl<'a> LocListIter<'a> {
     /// The next entry as it is written.
     pub fn next_raw(&mut self) -> Result<Option<RawLocListEntry<'a>>> {
         self.raw.next()
+    }
+
+    /// The same, and whether some LEB128 number of the entry is padded.
+    pub fn next_raw_noted(&mut self) -> Result<Option<Noted<RawLocListEntry<'a>>>> {
+        self.raw.next_noted()
     }
 
     /// Where the walk stands in its section: behind the entry read last, or at the section's end.

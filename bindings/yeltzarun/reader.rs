@@ -33,6 +33,17 @@ pub(super) fn part(section: &[u8], offset: u64, len: u64) -> &[u8] {
     section.get(offset as usize..end as usize).unwrap_or(&[])
 }
 
+/// An unsigned LEB128 number, and how it is written.
+#[derive(Debug, Clone, Copy, PartialEq, Eq, Hash)]
+pub struct Leb128 {
+    /// The number.
+    pub value: u64,
+    /// How many bytes it takes, 1 to 10.
+    pub length: usize,
+    /// Whether a shorter form of it exists: it has more than one byte, and the last is 00.
+    pub padded: bool,
+}
+
 /// Bytes with a byte order, read from the front. A refused read moves nothing.
 #[derive(Debug, Default, Clone, Copy, PartialEq, Eq, Hash)]
 pub struct EndianSlice<'a> {
@@ -115,8 +126,16 @@ impl<'a> EndianSlice<'a> {
 
     /// An unsigned LEB128 number.
     pub fn read_uleb128(&mut self) -> Result<u64> {
+        self.read_uleb128_with_length().map(|number| number.value)
+    }
+
+    /// An unsigned LEB128 number, its length, and whether it is padded.
+    pub fn read_uleb128_with_length(&mut self) -> Result<Leb128> {
         // SAFETY: pointer and length are of one slice.
-        self.read(|s, n, at, _| unsafe { ffi::yz_uleb128(s, n, at) })
+        let read = self.call(|s, n, at, _| unsafe { ffi::yz_uleb128(s, n, at) })?;
+        self.at = read.next as usize;
+        let ffi::Leb128 { number: value, length, padded, .. } = read;
+        Ok(Leb128 { value, length: length as usize, padded: padded != 0 })
     }
 
     /// An address of a size.

@@ -5,7 +5,7 @@ use super::ffi;
 use super::walk::{Table, Written};
 use super::{
     CanonicalList, Coverage, DebugAddr, DebugAddrBase, DebugRanges, DebugRngLists,
-    DebugRngListsBase, DebugRngListsIndex, Encoding, EndianSlice, Range, RangeListsOffset,
+    DebugRngListsBase, DebugRngListsIndex, Encoding, EndianSlice, Noted, Range, RangeListsOffset,
     RawRngListEntry, Result,
 };
 
@@ -229,11 +229,19 @@ impl<'a> RawRngListIter<'a> {
     /// The next entry; after a refusal the list is over.
     #[allow(clippy::should_implement_trait)]
     pub fn next(&mut self) -> Result<Option<RawRngListEntry>> {
+        Ok(self.next_noted()?.map(|noted| noted.entry))
+    }
+
+    /// The same, and whether some LEB128 number of the entry is padded.
+    pub fn next_noted(&mut self) -> Result<Option<Noted<RawRngListEntry>>> {
         let l = self.list;
         // SAFETY: pointer and length are of one slice.
         let answer =
             unsafe { ffi::yz_range_next_raw(l.ptr(), l.len(), l.encoding, &mut self.walk) };
-        answer.done_unless(ffi::END)?.map(RawRngListEntry::of).transpose()
+        let Some(ffi::RawRange { entry, padded }) = answer.done_unless(ffi::END)? else {
+            return Ok(None);
+        };
+        Ok(Some(Noted { entry: RawRngListEntry::of(entry)?, padded: padded != 0 }))
     }
 
     /// Where the walk stands in its section: behind the entry read last, or at the section's end.
@@ -271,6 +279,11 @@ impl RngListIter<'_> {
     /// The next entry as it is written.
     pub fn next_raw(&mut self) -> Result<Option<RawRngListEntry>> {
         self.raw.next()
+    }
+
+    /// The same, and whether some LEB128 number of the entry is padded.
+    pub fn next_raw_noted(&mut self) -> Result<Option<Noted<RawRngListEntry>>> {
+        self.raw.next_noted()
     }
 
     /// Where the walk stands in its section: behind the entry read last, or at the section's end.

@@ -1,6 +1,14 @@
 # A unit of DWARF 5 by hand, for what no compiler writes: a default location, locations that overlap, and, by the symbols
-# that the assembler is given, an attribute that is missing (NO_..), a list that is refused (BAD_KIND), or another address
-# size (THREE_BYTES).
+# that the assembler is given, an attribute that is missing (NO_..), a list that is refused (BAD_KIND), another address size
+# (THREE_BYTES), or LEB128 numbers with a byte more than they need (PADDED).
+
+        .macro  number value            # a LEB128 number below 0x80
+        .ifdef  PADDED
+        .byte   \value | 0x80, 0
+        .else
+        .uleb128 \value
+        .endif
+        .endm
 
         .text
         .globl  _start
@@ -89,10 +97,11 @@ range_offsets:
 3:
         .ifndef LEAN_ON_THE_UNIT
         .byte   1                       # DW_RLE_base_addressx
-        .uleb128 0
+        number  0
         .endif
         .byte   4                       # DW_RLE_offset_pair
-        .uleb128 0, 0x20
+        .uleb128 0
+        number  0x20
         .byte   0                       # DW_RLE_end_of_list
 2:
 
@@ -108,9 +117,10 @@ location_offsets:
         .uleb128 1
         .byte   0x50
         .byte   1                       # DW_LLE_base_addressx
-        .uleb128 0
+        number  0
         .byte   4                       # DW_LLE_offset_pair: DW_OP_reg5
-        .uleb128 0, 8, 1
+        .uleb128 0, 8
+        number  1
         .byte   0x55
         .byte   4                       # DW_LLE_offset_pair: DW_OP_reg4
         .uleb128 4, 8, 1

@@ -1,5 +1,6 @@
 //! Every list that an attribute names, with the entry that names it.
 
+use crate::lists::Numbered;
 use crate::program::Program;
 use crate::text;
 use crate::unit::Unit;
@@ -28,6 +29,18 @@ impl Listing {
     fn wrong(&mut self, wrong: Wrong) {
         self.line(4, &wrong.to_string());
         self.wrongs.push(wrong);
+    }
+
+    /// An entry of a list, and what it comes to.
+    fn entry<T>(&mut self, entry: Numbered<T>, what: &str, told: impl FnOnce(T) -> String) {
+        match entry.item {
+            Ok(item) => {
+                let padded = if entry.padded { ", padded" } else { "" };
+                let told = item.map_or_else(|| format!("no {what}"), told);
+                self.line(4, &format!("entry {}{padded}: {told}", entry.number));
+            }
+            Err(wrong) => self.wrong(wrong),
+        }
     }
 
     fn unit(&mut self, unit: &Unit) -> Outcome<()> {
@@ -103,26 +116,21 @@ impl Listing {
         if let Some(place) = ranges {
             self.line(2, &format!("{who}: {}", text::place(place)));
             match context.ranges(place) {
-                Ok(ranges) => ranges.into_iter().for_each(|(number, range)| match range {
-                    Ok(range) => self.line(4, &format!("entry {number}: {}", text::range(range))),
-                    Err(wrong) => self.wrong(wrong),
-                }),
+                Ok(ranges) => {
+                    ranges.into_iter().for_each(|entry| self.entry(entry, "range", text::range))
+                }
                 Err(wrong) => self.wrong(wrong),
             }
         }
         if let Some(place) = locations {
             self.line(2, &format!("{who}: {}", text::place(place)));
             match context.locations(place) {
-                Ok(locations) => {
-                    locations.into_iter().for_each(|(number, location)| match location {
-                        Ok(location) => {
-                            let range = text::range(location.range);
-                            let told = text::expression(unit, location.expression);
-                            self.line(4, &format!("entry {number}: {range}: {told}"));
-                        }
-                        Err(wrong) => self.wrong(wrong),
+                Ok(locations) => locations.into_iter().for_each(|entry| {
+                    self.entry(entry, "location", |location| {
+                        let told = text::expression(unit, location.expression);
+                        format!("{}: {told}", text::range(location.range))
                     })
-                }
+                }),
                 Err(wrong) => self.wrong(wrong),
             }
         }

@@ -6,7 +6,7 @@ use crate::wrong::{Outcome, Wrong};
 use yeltzarun::{
     DebugAddr, DebugAddrBase, DebugAddrIndex, DebugLoc, DebugLocLists, DebugLocListsBase,
     DebugLocListsIndex, DebugRanges, DebugRngLists, DebugRngListsBase, DebugRngListsIndex,
-    DwarfFileType, Encoding, LocationListEntry, LocationLists, LocationListsOffset, Range,
+    DwarfFileType, Encoding, LocationListEntry, LocationLists, LocationListsOffset, Noted, Range,
     RangeLists, RangeListsOffset, RawLocListEntry, RawRngListEntry, RunTimeEndian,
 };
 
@@ -56,8 +56,15 @@ impl Location {
     }
 }
 
-/// What an entry of a list comes to, with its number in the list, counted from 1.
-pub type Numbered<T> = (u64, Outcome<T>);
+/// An entry of a list that comes to something, can't be read, or is padded.
+pub struct Numbered<T> {
+    /// Its number in the list, counted from 1.
+    pub number: u64,
+    /// Whether a LEB128 number of it has a shorter form.
+    pub padded: bool,
+    /// What it comes to.
+    pub item: Outcome<Option<T>>,
+}
 
 /// What a list's entries lean on.
 #[derive(Default)]
@@ -104,18 +111,23 @@ impl Context {
         format!("{}: the list at {:#x} of {}", self.unit, place.offset, place.section)
     }
 
-    /// What a walk gives, its refusals told with the number of the entry.
+    /// What a walk gives, entry by entry, its refusals told with the number of the entry.
     fn numbered<T>(
         &self,
         place: Place,
-        walk: impl FnMut() -> Option<(u64, yeltzarun::Result<T>)>,
+        walk: impl FnMut() -> Option<(u64, bool, yeltzarun::Result<Option<T>>)>,
     ) -> Vec<Numbered<T>> {
         let Place { section, offset } = place;
-        let at = |number| {
-            format!("{}: entry {number} of the list at {offset:#x} of {section}", self.unit)
+        let at = |number, padded| {
+            let padded = if padded { ", padded," } else { "" };
+            format!("{}: entry {number}{padded} of the list at {offset:#x} of {section}", self.unit)
         };
         std::iter::from_fn(walk)
-            .map(|(number, item)| (number, item.map_err(Wrong::refused(at(number)))))
+            .filter(|(_, padded, item)| *padded || !matches!(item, Ok(None)))
+            .map(|(number, padded, item)| {
+                let item = item.map_err(Wrong::refused(at(number, padded)));
+                Numbered { number, padded, item }
+            })
             .collect()
     }
 
@@ -306,7 +318,7 @@ impl Context {
             .map_err(Wrong::refused(self.at(place)))
     }
 
-    /// The ranges of a list, each of them or a refusal.
+    /// The entries of a range list that come to a range, are refused or are padded.
     pub fn ranges(&self, place: Place) -> Outcome<Vec<Numbered<Range>>> {
         let (base_address, table) = self.range_bases(place)?;
         let (lists, offset) = (self.range_lists(), RangeListsOffset(place.offset));
@@ -314,16 +326,12 @@ impl Context {
             .ranges(offset, self.encoding, base_address, &self.debug_addr(), table)
             .map_err(Wrong::refused(self.at(place)))?;
         Ok(self.numbered(place, || {
-            loop {
-                let raw = match walk.next_raw() {
-                    Ok(raw) => raw?,
-                    // What can't be read isn't counted.
-                    Err(refusal) => return Some((walk.entries() + 1, Err(refusal))),
-                };
-                if let Some(range) = walk.convert_raw(raw).transpose() {
-                    return Some((walk.entries(), range));
-                }
-            }
+            let Noted { entry, padded } = match walk.next_raw_noted() {
+                Ok(noted) => noted?,
+                // What can't be read isn't counted.
+                Err(refusal) => return Some((walk.entries() + 1, false, Err(refusal))),
+            };
+            Some((walk.entries(), padded, walk.convert_raw(entry)))
         }))
     }
 
@@ -360,7 +368,7 @@ impl Context {
         Ok(if found.is_empty() { default } else { found })
     }
 
-    /// The locations of a list, each of them or a refusal.
+    /// The entries of a location list, likewise.
     pub fn locations(&self, place: Place) -> Outcome<Vec<Numbered<Location>>> {
         let (base_address, table) = self.location_bases(place)?;
         let (lists, offset) = (self.location_lists(), LocationListsOffset(place.offset));
@@ -375,16 +383,13 @@ impl Context {
         }
         .map_err(Wrong::refused(self.at(place)))?;
         Ok(self.numbered(place, || {
-            loop {
-                let raw = match walk.next_raw() {
-                    Ok(raw) => raw?,
-                    // What can't be read isn't counted.
-                    Err(refusal) => return Some((walk.entries() + 1, Err(refusal))),
-                };
-                if let Some(entry) = walk.convert_raw(raw).transpose() {
-                    return Some((walk.entries(), entry.map(Location::of)));
-                }
-            }
+            let Noted { entry, padded } = match walk.next_raw_noted() {
+                Ok(noted) => noted?,
+                // What can't be read isn't counted.
+                Err(refusal) => return Some((walk.entries() + 1, false, Err(refusal))),
+            };
+            let item = walk.convert_raw(entry).map(|item| item.map(Location::of));
+            Some((walk.entries(), padded, item))
         }))
     }
 }

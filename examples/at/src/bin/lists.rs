@@ -11,7 +11,8 @@ lists FILE [--split SPLIT]..
 
 Prints every range list and location list that an attribute in the ELF file FILE names, with the entry that
 names it, its ranges and its operations, and what it is read with. Each range has the number of its entry in the
-list, counted from 1, entries that come to no range included.
+list, counted from 1, entries that come to no range included. An entry is padded where one of its LEB128 numbers
+has a shorter form; such an entry is printed even if it comes to no range.
 
 SPLIT     a .dwo or .dwp file of FILE. Without one the .dwo files are those that FILE's attributes name
 
