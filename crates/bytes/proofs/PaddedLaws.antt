@@ -19,8 +19,7 @@ use Rattle.bytes.specs.declared.Num.the-variants as num
 use Rattle.bytes.specs.declared.leb128.Number.{Number}
 use Rattle.bytes.proofs.Took.{pick-ind}
 use Rattle.bytes.proofs.Order.{lt-or-le}
-use Rattle.bytes.proofs.LebTook.{unsigned-took, unsigned-lt}
-use Rattle.bytes.proofs.Inside.{unsigned-inside}
+use Rattle.bytes.proofs.LebTook.{unsigned-lt}
 use Rattle.bytes.proofs.WrittenLaws.{unsigned-short, unsigned-long, unsigned-last, unsigned-length, unsigned-there, unsigned-bytes, shortest}
 
 -- by the last byte of what is read as the number's last k + 1 bytes: 0 adds nothing, and stands alone or could be left out; any other

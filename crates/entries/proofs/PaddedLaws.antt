@@ -1,6 +1,6 @@
 -- An entry has a padded LEB128 number exactly where it took more bytes than it had to: by induction on the operands' forms, for every
 -- kind that the tables have. Assumes nothing.
-use mathlib.Core.Path.{_≡_, refl, sym, ap, ap₂, _∙_, subst}
+use mathlib.Core.Path.{_≡_, refl, sym, ap, _∙_, subst}
 use mathlib.Core.Bool.{Bool, true, false, _&&_, _||_}
 use mathlib.Core.List.{List, [], _∷_}
 use mathlib.Core.Logic.{_⊎_, inl, inr, ⊎-elim}
@@ -13,10 +13,9 @@ use borrow.Author.Tests.{lt-ltb, le-ltb, le-leb, lt-leb}
 use Rattle.bytes.specs.Read.{Result, gives, refused, got, Read, readThen, pick}
 use Rattle.bytes.specs.Address.{ones}
 use Rattle.bytes.specs.Leb128.{unsigned}
-use Rattle.bytes.specs.Padded.{isPadded, numberFrom, numberAt}
-use Rattle.bytes.specs.Reader.{uint, split, address as addressAt}
+use Rattle.bytes.specs.Padded.{isPadded}
+use Rattle.bytes.specs.Reader.{uint, split}
 use Rattle.bytes.specs.Written.{unsignedBytes}
-use Rattle.bytes.specs.declared.Span.{Span}
 use Rattle.bytes.specs.declared.common.DebugAddrIndex.{DebugAddrIndex}
 use Rattle.bytes.specs.declared.common.Encoding.{Encoding}
 use Rattle.bytes.specs.declared.endianity.RunTimeEndian.{RunTimeEndian}
@@ -31,7 +30,7 @@ use Rattle.bytes.proofs.ReaderTook.{uint-moves, address-uint}
 use Rattle.bytes.proofs.Took.{pick-ind}
 use Rattle.bytes.proofs.WrittenLaws.{shortest, few-bytes}
 use Rattle.entries.proofs.StepLaws.{step-found}
-use Rattle.entries.specs.Forms.{Form, index, number, rangeLength, address, expression, Value, Takes, Raw, stop, entry, indexed, versionedLength, block, operand, operands, isUnsigned}
+use Rattle.entries.specs.Forms.{Form, index, number, rangeLength, address, expression, Value, Takes, Raw, stop, entry, versionedLength, block, operand, operands, isUnsigned}
 use Rattle.entries.specs.Kinds.{Kind, endOfList, unknown, kind, Row, row, kindOf, rangeKinds, locationKinds, ofKind, coded, isEnd, ofPair, bare, hasKinds, codedRange, codedLocation, bareRange, bareLocation, rangeEntry, locationEntry, moved, rawAt}
 use Rattle.entries.specs.Listed.{EntryIn, readIn}
 use Rattle.entries.specs.Told.{Step, found, ended, stepOf}

@@ -3,9 +3,8 @@
 use mathlib.Core.Path.{_≡_, refl, sym, ap, _∙_}
 use mathlib.Core.Bool.{Bool, true, false, _&&_, _||_}
 use mathlib.Core.List.{List, [], _∷_}
-use Prim.Native.Nat.{ℕ, _-_, _≤_, _<_, min}
+use Prim.Native.Nat.{ℕ, _-_, _≤_, min}
 use native.Mathlib.Nat.{min-le-right}
-use native.Mathlib.Omega.{arith}
 use lib.ListN.{length, getD, take, drop, length-take}
 use lib.Seq.{getD-take, length-take-le}
 use Rattle.bytes.specs.Read.{gives, refused, got, Read, readThen}
@@ -15,7 +14,7 @@ use Rattle.bytes.specs.declared.common.Encoding.{Encoding}
 use Rattle.bytes.specs.declared.endianity.RunTimeEndian.{RunTimeEndian}
 use Rattle.bytes.specs.declared.endianity.RunTimeEndian.the-variants.{Little}
 use Rattle.bytes.proofs.Took.{Stands, Took}
-use Rattle.entries.specs.Forms.{Form, index, number, rangeLength, address, expression, Raw, entry, versionedLength, expressionAt, block, operand, isUnsigned}
+use Rattle.entries.specs.Forms.{Form, index, number, rangeLength, address, expression, entry, versionedLength, expressionAt, block, operand, isUnsigned}
 use Rattle.entries.specs.Kinds.{Kind, endOfList, unknown, kind, kindOf, locationKinds, hasKinds, rangeEntry, locationEntry}
 use Rattle.entries.specs.Listed.{EntryIn, readIn}
 use Rattle.entries.specs.Padded.{ifRead, paddedAt, somePadded, kindPadded, codedPadded, rangePart, locationPart, paddedIn, PaddedByEntry}
