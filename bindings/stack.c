@@ -1,4 +1,4 @@
-/* How much stack the calls over coverages and raw entries take: each is made on a stack of its own that was filled with one byte,
+/* How much stack the calls over coverages and raw entries and those by tables of kind numbers take: each is made on a stack of its own that was filled with one byte,
  * and what was written there is held to what the header says. With -v every figure is printed. */
 #define _XOPEN_SOURCE 700
 #include "yeltzarun.h"
@@ -27,6 +27,10 @@ static yz_encoding written = {5, 8, false, 0};
 static yz_walk walk;
 static yz_raw_range raw_range;
 static yz_raw_location raw_location;
+static yz_range range;
+static yz_done done;
+/* DWARF's own numbers. */
+static uint8_t kinds[YZ_KIND_CODES];
 
 #define RANGES ranges, ranges_len, NULL, 0, 0, unit
 #define LOCATIONS locations, locations_len, NULL, 0, 0, unit, YZ_FILE_MAIN
@@ -42,6 +46,14 @@ static void from_sheet(void) { MAKE(got = yz_coverage_from_sheet(sheet, sheet_le
 static void to_canonical(void) { MAKE(got = yz_canonical(YZ_LIMIT, &begins, &ends, output, sizeof output)); }
 static void is_canonical(void) { MAKE(canonical = yz_is_canonical(output, output_len)); }
 static void range_next_raw(void) { MAKE(raw_range = yz_range_next_raw(entry, sizeof entry, written, &walk)); }
+#define KINDS kinds, sizeof kinds
+static void range_coverage_by(void) { MAKE(got = yz_range_coverage_by(RANGES, 0, 0, KINDS, &begins, &ends)); }
+static void range_runs_by(void) { MAKE(got = yz_range_runs_by(RANGES, 0, 0, KINDS, begins.at, YZ_LIMIT, ends.at, YZ_LIMIT)); }
+static void range_canonical_by(void) { MAKE(got = yz_range_canonical_by(RANGES, 0, 0, KINDS, output, sizeof output)); }
+static void range_next_by(void) { MAKE(range = yz_range_next_by(entry, sizeof entry, NULL, 0, 0, written, KINDS, &walk)); }
+static void range_next_raw_by(void) { MAKE(raw_range = yz_range_next_raw_by(entry, sizeof entry, written, KINDS, &walk)); }
+static void range_lookup_by(void) { MAKE(range = yz_range_lookup_by(RANGES, 0, 0, KINDS, UINT64_MAX)); }
+static void kinds_load(void) { MAKE(done = yz_kinds_load(KINDS)); }
 static void location_next_raw(void) { MAKE(raw_location = yz_location_next_raw(entry, sizeof entry, written, &walk)); }
 
 static long used(void (*call)(void)) {
@@ -99,7 +111,7 @@ static void make_lists(size_t count, int order) {
     locations_len = (size_t)(l - locations);
 }
 
-/* A raw call on an entry of each kind, split and of both layouts, and of one that is none; its numbers are padded. */
+/* A call on an entry of each kind, split and of both layouts, and of one that is none; its numbers are padded. */
 static void raw_entries(const char *name, void (*call)(void)) {
     uint8_t kind;
     size_t i;
@@ -119,6 +131,8 @@ int main(int argc, char **argv) {
     size_t c;
     int order;
     told = argc == 2 && strcmp(argv[1], "-v") == 0;
+    for (c = 0; c < sizeof kinds; c++)
+        kinds[c] = c < 8 ? (uint8_t)c : YZ_NO_KIND;
     for (c = 0; c < sizeof counts / sizeof *counts; c++)
         for (order = 0; order < 3; order++) {
             size_t n = counts[c];
@@ -127,6 +141,10 @@ int main(int argc, char **argv) {
             below("yz_range_coverage", n, range_coverage, bound);
             below("yz_range_runs", n, range_runs, bound);
             below("yz_range_canonical", n, range_canonical, bound);
+            below("yz_range_coverage_by", n, range_coverage_by, bound);
+            below("yz_range_runs_by", n, range_runs_by, bound);
+            below("yz_range_canonical_by", n, range_canonical_by, bound);
+            below("yz_range_lookup_by", n, range_lookup_by, YZ_STACK_OTHERS);
             below("yz_location_coverage", n, location_coverage, bound);
             below("yz_location_runs", n, location_runs, bound);
             below("yz_location_canonical", n, location_canonical, bound);
@@ -140,7 +158,10 @@ int main(int argc, char **argv) {
     below("yz_canonical", YZ_LIMIT, to_canonical, YZ_STACK_OTHERS);
     output_len = got.count;
     below("yz_is_canonical", YZ_LIMIT, is_canonical, YZ_STACK_OTHERS);
+    below("yz_kinds_load", 0, kinds_load, YZ_STACK_OTHERS);
     raw_entries("yz_range_next_raw", range_next_raw);
+    raw_entries("yz_range_next_raw_by", range_next_raw_by);
+    raw_entries("yz_range_next_by", range_next_by);
     raw_entries("yz_location_next_raw", location_next_raw);
     printf("stack: %d passed, %d failed\n", passed, failed);
     return failed != 0;

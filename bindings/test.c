@@ -713,12 +713,117 @@ static void test_location_open(void) {
     REFUSES_OPENING(yz_location_open(S("abc"), little(5, 5), MAIN, MAX, 0, &walk), BAD_SIZE(5));
 }
 
+/* ---- Calls over range lists, of which each test makes those that `by` names: without a table, by one with DWARF's own
+ * numbers, or by a supplier's over the same list with the supplier's codes. The answers are the same. ---- */
+
+/* The operands of a bare pair and of kinds, as docs/SCOPE.md has them: n is a LEB128 number, a an address, l a length, and x an
+ * expression, which begins with its length. From version 5 on these two lengths are LEB128; before, l has four bytes and that of
+ * x two. */
+static const char *const range_operands[] = {"aa", "n", "nn", "nn", "nn", "a", "aa", "an"};
+static const char *const location_operands[] = {"aax", "n", "nnx", "nlx", "nnx", "x", "a", "aax", "anx"};
+
+/* The arguments of the calls, up to what is asked for. */
+#define SECTION const uint8_t *section, size_t section_len
+#define LIST_AND_TABLE SECTION, const uint8_t *debug_addr, size_t debug_addr_len, uint64_t debug_addr_base, yz_encoding encoding
+#define WHOLE LIST_AND_TABLE, uint64_t offset, uint64_t base_address
+typedef struct range_calls {
+    yz_range (*next)(LIST_AND_TABLE, yz_walk *);
+    yz_raw_range (*next_raw)(SECTION, yz_encoding encoding, yz_walk *);
+    yz_range (*lookup)(WHOLE, uint64_t address);
+    yz_count (*coverage)(WHOLE, yz_bounds *, yz_bounds *);
+    yz_count (*runs)(WHOLE, uint64_t *, size_t, uint64_t *, size_t);
+    yz_count (*canonical)(WHOLE, uint8_t *, size_t);
+} range_calls;
+
+/* A supplier's code for each kind. Some are other kinds' numbers; 8, 9 and ff, which lists of the tests have for no kind, are
+ * none. */
+static const uint8_t codes[] = {0x10, 0xfe, 0x03, 0x02, 0x07, 0, 0x80, 0x04};
+
+/* A list from a place on, with these codes in place of the kinds that reading meets; bare pairs have none. */
+static const uint8_t *recoded(SECTION, yz_encoding encoding, uint64_t at) {
+    static uint8_t copy[sizeof made];
+    if (encoding.version < 5 || section_len == 0) return section;
+    memcpy(copy, section, section_len);
+    while (at < section_len && section[at] < sizeof codes) {
+        const uint8_t kind = section[at];
+        const char *operand = range_operands[kind];
+        copy[at++] = codes[kind];
+        for (; kind != 0 && *operand != 0; operand++) {
+            if (*operand == 'a') {
+                at += encoding.address_size;
+                continue;
+            }
+            while (at < section_len && section[at] > 0x7f)
+                at++;
+            at++;
+        }
+        if (kind == 0) break;
+    }
+    return copy;
+}
+
+/* Both tables. */
+static uint8_t dwarf_kinds[YZ_KIND_CODES], supplier_kinds[YZ_KIND_CODES];
+
+static void make_tables(void) {
+    uint8_t kind;
+    memset(dwarf_kinds, YZ_NO_KIND, sizeof dwarf_kinds);
+    memset(supplier_kinds, YZ_NO_KIND, sizeof supplier_kinds);
+    for (kind = 0; kind < sizeof codes; kind++) {
+        dwarf_kinds[kind] = kind;
+        supplier_kinds[codes[kind]] = kind;
+    }
+}
+
+/* The calls by a table, over the section as it is or as it is made of it. */
+#define LENT debug_addr, debug_addr_len, debug_addr_base, encoding
+#define CALLS_BY(name, made_of, table)                                                                               \
+    static yz_range next_##name(LIST_AND_TABLE, yz_walk *w) {                                                        \
+        return yz_range_next_by(made_of(w->at), section_len, LENT, table, sizeof table, w);                          \
+    }                                                                                                                \
+    static yz_raw_range next_raw_##name(SECTION, yz_encoding encoding, yz_walk *w) {                                 \
+        return yz_range_next_raw_by(made_of(w->at), section_len, encoding, table, sizeof table, w);                  \
+    }                                                                                                                \
+    static yz_range lookup_##name(WHOLE, uint64_t address) {                                                         \
+        return yz_range_lookup_by(made_of(offset), section_len, LENT, offset, base_address, table, sizeof table, address); \
+    }                                                                                                                \
+    static yz_count coverage_##name(WHOLE, yz_bounds *b, yz_bounds *e) {                                             \
+        return yz_range_coverage_by(made_of(offset), section_len, LENT, offset, base_address, table, sizeof table, b, e); \
+    }                                                                                                                \
+    static yz_count runs_##name(WHOLE, uint64_t *b, size_t b_len, uint64_t *e, size_t e_len) {                       \
+        return yz_range_runs_by(made_of(offset), section_len, LENT, offset, base_address, table, sizeof table, b, b_len, e, \
+                                e_len);                                                                              \
+    }                                                                                                                \
+    static yz_count canonical_##name(WHOLE, uint8_t *o, size_t o_len) {                                              \
+        return yz_range_canonical_by(made_of(offset), section_len, LENT, offset, base_address, table, sizeof table, o, o_len); \
+    }                                                                                                                \
+    static const range_calls name = {                                                                                \
+        next_##name, next_raw_##name, lookup_##name, coverage_##name, runs_##name, canonical_##name,                 \
+    };
+#define AS_IT_IS(at) section
+#define RECODED(at) recoded(section, section_len, encoding, at)
+CALLS_BY(by_dwarf, AS_IT_IS, dwarf_kinds)
+CALLS_BY(by_supplier, RECODED, supplier_kinds)
+static const range_calls without_table = {
+    yz_range_next, yz_range_next_raw, yz_range_lookup, yz_range_coverage, yz_range_runs, yz_range_canonical,
+};
+static const range_calls *by = &without_table;
+
+/* A test by each of the two tables. */
+static void by_tables(void (*run)(void)) {
+    by = &by_dwarf;
+    run();
+    by = &by_supplier;
+    run();
+    by = &without_table;
+}
+
 /* ---- Range lists. They leave a walk's word for split lists as it is, whatever it is. ---- */
 
 static void ranges_from(uint64_t at, uint64_t base_address) { walk_from(at, base_address, OLD_WORD); }
 
 #define NEXT(list, table, encoding, at, base_address, entries, ...)                                                  \
-    STEP(range, yz_range_next(list, table, 8, encoding, &walk), at, base_address, entries, __VA_ARGS__)
+    STEP(range, by->next(list, table, 8, encoding, &walk), at, base_address, entries, __VA_ARGS__)
 
 /* Addresses of three bytes. */
 static void ranges_of_three(void) {
@@ -895,12 +1000,6 @@ static void test_range_next(void) {
 
 /* ---- Padded numbers of entries ---- */
 
-/* The operands of a bare pair and of kinds, as docs/SCOPE.md has them: n is a LEB128 number, a an address, l a length, and x an
- * expression, which begins with its length. From version 5 on these two lengths are LEB128; before, l has four bytes and that of
- * x two. */
-static const char *const range_operands[] = {"aa", "n", "nn", "nn", "nn", "a", "aa", "an"};
-static const char *const location_operands[] = {"aax", "n", "nnx", "nlx", "nnx", "x", "a", "aax", "anx"};
-
 /* What is written into an entry: two numbers, a length, and how many bytes are added to a number that is padded. Where a length
  * is not LEB128, this one is its first byte, and 00 the others. */
 typedef struct operands {
@@ -987,7 +1086,7 @@ static fields make_base(bool locations, yz_encoding encoding) {
 /* The next raw entry of the bytes that were made, cut to a length. */
 static fields raw_of_made(bool locations, yz_encoding encoding, size_t len) {
     if (locations) return of_raw_location(yz_location_next_raw(made, len, encoding, &walk));
-    return of_raw_range(yz_range_next_raw(made, len, encoding, &walk));
+    return of_raw_range(by->next_raw(made, len, encoding, &walk));
 }
 
 /* Whether the entry at place 2 is answered as it must be, whole, with bytes behind it and cut short. */
@@ -1044,7 +1143,7 @@ static void entries_padded(bool locations, uint64_t split, uint16_t version) {
 }
 
 #define RAW(list, encoding, at, entries, ...)                                                                        \
-    STEP(raw_range, yz_range_next_raw(list, encoding, &walk), at, 7, entries, __VA_ARGS__)
+    STEP(raw_range, by->next_raw(list, encoding, &walk), at, 7, entries, __VA_ARGS__)
 
 static void padded_ranges(void) {
     /* Entries whose first number is padded, or the second, or none. */
@@ -1175,6 +1274,55 @@ static yz_range_entry range_entry(uint64_t kind, uint64_t first, uint64_t second
     return entry;
 }
 
+/* Conversions between calls that read entries. */
+static void ranges_converted(void) {
+#define LIST S("\x05\0\x10\0\0\x04\x01\x02\x04\x03\x03\x04\x05\x06\0\xff")
+#define READ_ONE(at, base_address, entries, ...)                                                                     \
+    STEP(raw_range, by->next_raw(LIST, little(5, 4), &walk), at, base_address, entries, __VA_ARGS__)
+#define CONVERT_ONE(kind, first, second, at, base_address, entries, ...)                                             \
+    STEP(range, yz_range_convert_raw(TABLE, 8, little(5, 4), range_entry(kind, first, second), &walk), at,           \
+         base_address, entries, __VA_ARGS__)
+    OPENS(yz_range_open(LIST, little(5, 4), 0, 0, &walk), 0, 0, 0);
+    READ_ONE(5, 0, 1, DONE, YZ_RLE_BASE_ADDRESS, 0x1000, 0);
+    CONVERT_ONE(YZ_RLE_BASE_ADDRESS, 0x1000, 0, 5, 0x1000, 1, COMES_TO_NOTHING);
+    READ_ONE(8, 0x1000, 2, DONE, YZ_RLE_OFFSET_PAIR, 1, 2);
+    CONVERT_ONE(YZ_RLE_OFFSET_PAIR, 1, 2, 8, 0x1000, 2, DONE, 0x1001, 0x1002);
+    READ_ONE(11, 0x1000, 3, DONE, YZ_RLE_OFFSET_PAIR, 3, 3);
+    CONVERT_ONE(YZ_RLE_OFFSET_PAIR, 3, 3, 11, 0x1000, 3, COMES_TO_NOTHING);
+    CONVERT_ONE(YZ_RLE_STARTX_LENGTH, 2, 3, 11, 0x1000, 3, CUT_SHORT);
+    CONVERT_ONE(8, 3, 3, 11, 0x1000, 3, REFUSED(YZ_UNKNOWN_RANGE_LISTS_ENTRY, 8));
+    NEXT(LIST, TABLE, little(5, 4), 14, 0x1000, 4, DONE, 0x1005, 0x1006);
+    NEXT(LIST, TABLE, little(5, 4), 16, 0x1000, 5, END);
+    CONVERT_ONE(YZ_RLE_OFFSET_PAIR, 1, 2, 16, 0x1000, 5, DONE, 0x1001, 0x1002);
+    READ_ONE(16, 0x1000, 5, END);
+#undef LIST
+#undef READ_ONE
+#undef CONVERT_ONE
+    /* Entries with padded numbers come to what they come to without. */
+#define LIST S("\x01\x81\0\x04\x81\0\x82\x80\0\x02\x80\0\x81\0\x03\x81\0\x85\0\x07\x05\0\0\0\x87\0\0")
+#define PADDED(at, base_address, entries, ...)                                                                       \
+    do {                                                                                                             \
+        const yz_raw_range raw = by->next_raw(LIST, little(5, 4), &walk);                                            \
+        CHECK(raw.result == YZ_DONE && raw.padded == 1);                                                             \
+        STEP(range, yz_range_convert_raw(TABLE, 8, little(5, 4), raw.entry, &walk), at, base_address, entries,       \
+             __VA_ARGS__);                                                                                           \
+    } while (0)
+    ranges_from(0, 0x100);
+    PADDED(3, 0x20, 1, COMES_TO_NOTHING);
+    PADDED(9, 0x20, 2, DONE, 0x21, 0x22);
+    PADDED(14, 0x20, 3, DONE, 0x10, 0x20);
+    PADDED(19, 0x20, 4, DONE, 0x20, 0x25);
+    PADDED(26, 0x20, 5, DONE, 5, 12);
+    ranges_from(0, 0x100);
+    NEXT(LIST, TABLE, little(5, 4), 9, 0x20, 2, DONE, 0x21, 0x22);
+    NEXT(LIST, TABLE, little(5, 4), 14, 0x20, 3, DONE, 0x10, 0x20);
+    NEXT(LIST, TABLE, little(5, 4), 19, 0x20, 4, DONE, 0x20, 0x25);
+    NEXT(LIST, TABLE, little(5, 4), 26, 0x20, 5, DONE, 5, 12);
+    NEXT(LIST, TABLE, little(5, 4), 27, 0x20, 6, END);
+#undef LIST
+#undef PADDED
+}
+
 /* What an entry comes to on a walk with base address 0x100; the walk's base address then. */
 #define CONVERT(table, encoding, kind, first, second, base_address, ...)                                             \
     do {                                                                                                             \
@@ -1214,56 +1362,11 @@ static void test_range_convert_raw(void) {
     CONVERT(TABLE_3, little(5, 3), YZ_RLE_BASE_ADDRESSX, 2, 0, 0x100, CUT_SHORT);
     CONVERT(TABLE_3, little(5, 3), YZ_RLE_STARTX_ENDX, 0, THIRD, 0x100, CUT_SHORT);
     CONVERT(TABLE_3, little(5, 3), YZ_RLE_STARTX_ENDX, 0, THIRD + 1, 0x100, TOO_FAR);
-    /* Between calls that read entries. */
-#define LIST S("\x05\0\x10\0\0\x04\x01\x02\x04\x03\x03\x04\x05\x06\0\xff")
-#define READ_ONE(at, base_address, entries, ...)                                                                     \
-    STEP(raw_range, yz_range_next_raw(LIST, little(5, 4), &walk), at, base_address, entries, __VA_ARGS__)
-#define CONVERT_ONE(kind, first, second, at, base_address, entries, ...)                                             \
-    STEP(range, yz_range_convert_raw(TABLE, 8, little(5, 4), range_entry(kind, first, second), &walk), at,           \
-         base_address, entries, __VA_ARGS__)
-    OPENS(yz_range_open(LIST, little(5, 4), 0, 0, &walk), 0, 0, 0);
-    READ_ONE(5, 0, 1, DONE, YZ_RLE_BASE_ADDRESS, 0x1000, 0);
-    CONVERT_ONE(YZ_RLE_BASE_ADDRESS, 0x1000, 0, 5, 0x1000, 1, COMES_TO_NOTHING);
-    READ_ONE(8, 0x1000, 2, DONE, YZ_RLE_OFFSET_PAIR, 1, 2);
-    CONVERT_ONE(YZ_RLE_OFFSET_PAIR, 1, 2, 8, 0x1000, 2, DONE, 0x1001, 0x1002);
-    READ_ONE(11, 0x1000, 3, DONE, YZ_RLE_OFFSET_PAIR, 3, 3);
-    CONVERT_ONE(YZ_RLE_OFFSET_PAIR, 3, 3, 11, 0x1000, 3, COMES_TO_NOTHING);
-    CONVERT_ONE(YZ_RLE_STARTX_LENGTH, 2, 3, 11, 0x1000, 3, CUT_SHORT);
-    CONVERT_ONE(8, 3, 3, 11, 0x1000, 3, REFUSED(YZ_UNKNOWN_RANGE_LISTS_ENTRY, 8));
-    NEXT(LIST, TABLE, little(5, 4), 14, 0x1000, 4, DONE, 0x1005, 0x1006);
-    NEXT(LIST, TABLE, little(5, 4), 16, 0x1000, 5, END);
-    CONVERT_ONE(YZ_RLE_OFFSET_PAIR, 1, 2, 16, 0x1000, 5, DONE, 0x1001, 0x1002);
-    READ_ONE(16, 0x1000, 5, END);
-#undef LIST
-#undef READ_ONE
-#undef CONVERT_ONE
-    /* Entries with padded numbers come to what they come to without. */
-#define LIST S("\x01\x81\0\x04\x81\0\x82\x80\0\x02\x80\0\x81\0\x03\x81\0\x85\0\x07\x05\0\0\0\x87\0\0")
-#define PADDED(at, base_address, entries, ...)                                                                       \
-    do {                                                                                                             \
-        const yz_raw_range raw = yz_range_next_raw(LIST, little(5, 4), &walk);                                       \
-        CHECK(raw.result == YZ_DONE && raw.padded == 1);                                                             \
-        STEP(range, yz_range_convert_raw(TABLE, 8, little(5, 4), raw.entry, &walk), at, base_address, entries,       \
-             __VA_ARGS__);                                                                                           \
-    } while (0)
-    ranges_from(0, 0x100);
-    PADDED(3, 0x20, 1, COMES_TO_NOTHING);
-    PADDED(9, 0x20, 2, DONE, 0x21, 0x22);
-    PADDED(14, 0x20, 3, DONE, 0x10, 0x20);
-    PADDED(19, 0x20, 4, DONE, 0x20, 0x25);
-    PADDED(26, 0x20, 5, DONE, 5, 12);
-    ranges_from(0, 0x100);
-    NEXT(LIST, TABLE, little(5, 4), 9, 0x20, 2, DONE, 0x21, 0x22);
-    NEXT(LIST, TABLE, little(5, 4), 14, 0x20, 3, DONE, 0x10, 0x20);
-    NEXT(LIST, TABLE, little(5, 4), 19, 0x20, 4, DONE, 0x20, 0x25);
-    NEXT(LIST, TABLE, little(5, 4), 26, 0x20, 5, DONE, 5, 12);
-    NEXT(LIST, TABLE, little(5, 4), 27, 0x20, 6, END);
-#undef LIST
-#undef PADDED
+    ranges_converted();
 }
 
 #define LOOKUP(list, encoding, offset, address, ...)                                                                 \
-    IS(range, yz_range_lookup(list, TABLE, 8, encoding, offset, 0x40, address), __VA_ARGS__)
+    IS(range, by->lookup(list, TABLE, 8, encoding, offset, 0x40, address), __VA_ARGS__)
 
 static void test_range_lookup(void) {
 #define LIST S("\x07\x10\0\0\0\x08\x03\x01\x08\x04\x02\x03\x08")
@@ -1278,7 +1381,7 @@ static void test_range_lookup(void) {
     LOOKUP(S("\x07\x10\0\0\0\x08\0"), little(5, 4), 0, MAX, NOT_THERE);
     LOOKUP(NO_BYTES, little(5, 4), 0, 0, NOT_THERE);
     LOOKUP(NO_BYTES, little(5, 4), 1, 0, CUT_SHORT);
-    IS(range, yz_range_lookup(S("\x01\x03\0\0"), NO_BYTES, 0, big(4, 1), 0, 0x40, 0x42), DONE, 0x41, 0x43);
+    IS(range, by->lookup(S("\x01\x03\0\0"), NO_BYTES, 0, big(4, 1), 0, 0x40, 0x42), DONE, 0x41, 0x43);
 #define LIST S("\x07\x01\x02\x03\x08\x04\x02\x03\x06\x10\0")
     LOOKUP(LIST, little(5, 3), 0, 0x030208, DONE, 0x030201, 0x030209);
     LOOKUP(LIST, big(5, 3), 0, 0x01020a, DONE, 0x010203, 0x01020b);
@@ -1287,7 +1390,7 @@ static void test_range_lookup(void) {
 #undef LIST
     LOOKUP(S("\x07\xf0\xff\xff\x10\0"), little(5, 3), 0, 0xfffff0, NOT_THERE);
     LOOKUP(NO_BYTES, little(5, 3), 1, 0, CUT_SHORT);
-    IS(range, yz_range_lookup(S("\x03\x01\x08\0"), TABLE_3, 8, little(5, 3), 0, 0, 0x27), DONE, 0x20, 0x28);
+    IS(range, by->lookup(S("\x03\x01\x08\0"), TABLE_3, 8, little(5, 3), 0, 0, 0x27), DONE, 0x20, 0x28);
 }
 
 /* ---- Location lists. Any word but 0 makes a walk one of a split list. ---- */
@@ -1669,7 +1772,7 @@ static void test_location_convert_raw(void) {
              entries, __VA_ARGS__);                                                                                  \
     } while (0)
 #define LIST                                                                                                         \
-    S("\x01\x81\0\x04\x81\0\x82\x80\0\x81\0\x50\x02\x80\0\x81\0\x80\0\x03\x81\0\x85\0\x80\0\x05\x81\0\x51"             \
+    S("\x01\x81\0\x04\x81\0\x82\x80\0\x81\0\x50\x02\x80\0\x81\0\x80\0\x03\x81\0\x85\0\x80\0\x05\x81\0\x51"           \
       "\x07\x05\0\0\0\x07\0\0\0\x80\0\x08\x05\0\0\0\x87\0\x80\0\0")
     walk_from(0, 0x100, 0);
     PADDED(5, 3, 0x20, 1, COMES_TO_NOTHING);
@@ -1919,10 +2022,10 @@ static void marks_of_three_ranges(void) {
     NEXT_IS_10;
     /* Raw entries, from the same walk. */
     SETS(0);
-    STEP(raw_range, yz_range_next_raw(THREE, little(5, 4), &walk), 12, 0, 2, DONE, YZ_RLE_START_LENGTH, 0x20, 1);
+    STEP(raw_range, by->next_raw(THREE, little(5, 4), &walk), 12, 0, 2, DONE, YZ_RLE_START_LENGTH, 0x20, 1);
     NEXT_IS_30;
     RETURNS(0, 6, 0, 1, 0);
-    STEP(raw_range, yz_range_next_raw(THREE, little(5, 4), &walk), 12, 0, 2, DONE, YZ_RLE_START_LENGTH, 0x20, 1);
+    STEP(raw_range, by->next_raw(THREE, little(5, 4), &walk), 12, 0, 2, DONE, YZ_RLE_START_LENGTH, 0x20, 1);
     /* A place past the section's end. */
     no_marks();
     walk_from(99, 0, 0);
@@ -2098,16 +2201,19 @@ static void marks_of_locations(void) {
         }                                                                                                            \
     } while (0)
 
-static void answers_again(void) {
+static void ranges_again(void) {
     /* Lookups that fail, entries that are skipped, a base, the end; the same entries raw. */
 #define LIST S("\x02\0\x02\x03\x01\x08\x05\x20\0\0\0\x04\x01\x02\x04\x03\x03\x01\x07\x04\x05\x06\x01\x01\x04\x07\x08\0")
     ranges_from(0, 7);
-    ANSWERS_AGAIN(range, yz_range_next(LIST, TABLE, 8, little(5, 4), &walk));
+    ANSWERS_AGAIN(range, by->next(LIST, TABLE, 8, little(5, 4), &walk));
     ranges_from(0, 7);
-    ANSWERS_AGAIN(raw_range, yz_range_next_raw(LIST, little(5, 4), &walk));
+    ANSWERS_AGAIN(raw_range, by->next_raw(LIST, little(5, 4), &walk));
 #undef LIST
     ranges_from(0, 7);
-    ANSWERS_AGAIN(range, yz_range_next(S("\x01\x03\xff\x20\x01\x03\x05\x06\x07"), NO_BYTES, 0, big(3, 1), &walk));
+    ANSWERS_AGAIN(range, by->next(S("\x01\x03\xff\x20\x01\x03\x05\x06\x07"), NO_BYTES, 0, big(3, 1), &walk));
+}
+
+static void locations_again(void) {
 #define LIST S("\x02\0\x02\0\x03\x01\x08\x01\x50\x06\x20\0\0\0\x04\x01\x02\0\x05\x01\x51\x01\x07\x04\x05\x06\0\x09")
     walk_from(0, 7, 0);
     ANSWERS_AGAIN(location, yz_location_next(LIST, TABLE, 8, little(5, 4), &walk));
@@ -2168,7 +2274,8 @@ static void test_mark_return(void) {
     NO_RETURN(7);
     marks_of_ranges();
     marks_of_locations();
-    answers_again();
+    ranges_again();
+    locations_again();
 }
 
 /* ---- Coverage ---- */
@@ -2229,7 +2336,7 @@ static const uint8_t *make_entries(size_t n, size_t first, size_t step, uint8_t 
 /* Two apart, and without an end mark; and the scope's list for refusal 10, the same range n times, and a byte. */
 #define APART(n) make_entries(n, 0, 2, 0), 6 * (n)
 #define SAME(n, behind) make_entries(n, 0x10, 0, behind), 6 * (n) + 1
-#define COVER(list, encoding, offset) yz_range_coverage(list, TABLE, 8, encoding, offset, 0, &begins, &ends)
+#define COVER(list, encoding, offset) by->coverage(list, TABLE, 8, encoding, offset, 0, &begins, &ends)
 
 static void test_range_coverage(void) {
     COVERS(COVER(TOUCHING, little(5, 4), 0), 1);
@@ -2244,7 +2351,7 @@ static void test_range_coverage(void) {
     CHECK(range_is(0, 0, 1) && range_is(1024, 2048, 2049));
     COVERS(COVER(SAME(3000, 0), little(5, 4), 0), 1);
     CHECK(range_is(0, 0x10, 0x11));
-    COVERS(yz_range_coverage(S("\x09\x01\x03\0\0"), NO_BYTES, 0, big(4, 1), 1, 0x40, &begins, &ends), 1);
+    COVERS(by->coverage(S("\x09\x01\x03\0\0"), NO_BYTES, 0, big(4, 1), 1, 0x40, &begins, &ends), 1);
     CHECK(range_is(0, 0x41, 0x43));
     COVERS(COVER(S("\x07\x20\0\0\x10\x07\x10\0\0\x10\0"), little(5, 3), 0), 1);
     CHECK(range_is(0, 0x10, 0x30));
@@ -2255,9 +2362,9 @@ static void test_range_coverage(void) {
     COVERS(COVER(S("\x07\0\0\0\xff\xff\xff\x07\0"), little(5, 3), 0), 1);
     CHECK(range_is(0, 0, 0xffffff));
     COVERS(COVER(S("\x07\x01\0\0\xff\xff\xff\x07\0"), little(5, 3), 0), 0);
-    COVERS(yz_range_coverage(S("\x03\x01\x08\x03\0\x04\0"), TABLE_3, 8, little(5, 3), 0, 0, &begins, &ends), 2);
+    COVERS(by->coverage(S("\x03\x01\x08\x03\0\x04\0"), TABLE_3, 8, little(5, 3), 0, 0, &begins, &ends), 2);
     CHECK(range_is(0, 0x10, 0x14) && range_is(1, 0x20, 0x28));
-    COVERS(yz_range_coverage(S("\0\0\x01\0\0\x03\0\0\0\0\0\0"), NO_BYTES, 0, big(4, 3), 0, 0xfffd, &begins, &ends), 1);
+    COVERS(by->coverage(S("\0\0\x01\0\0\x03\0\0\0\0\0\0"), NO_BYTES, 0, big(4, 3), 0, 0xfffd, &begins, &ends), 1);
     CHECK(range_is(0, 0xfffe, 0x010000));
     REFUSES_COVERAGE(COVER(S("\x07\x20\0\0\x10\x06\x10\0"), little(5, 3), 0), CUT_SHORT);
     REFUSES_COVERAGE(COVER(NO_BYTES, little(5, 3), 1), CUT_SHORT);
@@ -2304,7 +2411,7 @@ static bool run_is(size_t i, uint64_t begin, uint64_t end) { return run_begins[i
 
 /* So many places of each. */
 #define INTO(b, e) run_begins, b, run_ends, e
-#define RUNS(list, encoding, offset, b, e) yz_range_runs(list, TABLE, 8, encoding, offset, 0, INTO(b, e))
+#define RUNS(list, encoding, offset, b, e) by->runs(list, TABLE, 8, encoding, offset, 0, INTO(b, e))
 
 static void test_range_runs(void) {
     size_t b, e;
@@ -2313,7 +2420,7 @@ static void test_range_runs(void) {
     PUTS(RUNS(TOUCHING, little(5, 4), 0, 2, 2), 1);
     CHECK(run_is(0, 0x10, 0x30));
     REFUSES_RUNS(RUNS(TOUCHING, little(5, 4), 0, 0, 0), NO_ROOM);
-    REFUSES_RUNS(yz_range_runs(TOUCHING, NO_BYTES, 0, little(5, 4), 0, 0, NO_BYTES, NO_BYTES), NO_ROOM);
+    REFUSES_RUNS(by->runs(TOUCHING, NO_BYTES, 0, little(5, 4), 0, 0, NO_BYTES, NO_BYTES), NO_ROOM);
     /* Two ranges into slices of every two lengths. */
 #define LIST S("\x03\x01\x08\x03\0\x04\0")
     for (b = 0; b < 5; b++)
@@ -2327,14 +2434,14 @@ static void test_range_runs(void) {
         }
     PUTS(RUNS(LIST, little(5, 4), 0, 2, YZ_LIMIT), 2);
     PUTS(RUNS(LIST, little(5, 4), 0, YZ_LIMIT, 2), 2);
-    PUTS(yz_range_runs(LIST, TABLE_3, 8, little(5, 3), 0, 0, INTO(2, 2)), 2);
+    PUTS(by->runs(LIST, TABLE_3, 8, little(5, 3), 0, 0, INTO(2, 2)), 2);
     CHECK(run_is(0, 0x10, 0x14) && run_is(1, 0x20, 0x28));
 #undef LIST
     /* No range needs no place. */
     PUTS(RUNS(NO_BYTES, little(5, 4), 0, 0, 0), 0);
     PUTS(RUNS(NO_BYTES, little(5, 4), 0, 3, 3), 0);
-    PUTS(yz_range_runs(S("\0"), NO_BYTES, 0, little(5, 4), 1, 0, NO_BYTES, NO_BYTES), 0);
-    PUTS(yz_range_runs(S("\x09\x01\x03\0\0"), NO_BYTES, 0, big(4, 1), 1, 0x40, INTO(1, 1)), 1);
+    PUTS(by->runs(S("\0"), NO_BYTES, 0, little(5, 4), 1, 0, NO_BYTES, NO_BYTES), 0);
+    PUTS(by->runs(S("\x09\x01\x03\0\0"), NO_BYTES, 0, big(4, 1), 1, 0x40, INTO(1, 1)), 1);
     CHECK(run_is(0, 0x41, 0x43));
     PUTS(RUNS(S("\x06\x01\x02\x03\x04\x05\x06\x07\0\0\x01\x01\0"), big(5, 3), 0, 2, 2), 2);
     CHECK(run_is(0, 1, 2) && run_is(1, 0x010203, 0x040506));
@@ -2692,16 +2799,16 @@ static void test_canonical(void) {
     refuses_one_more(write);
 }
 
-#define CANONICAL(list, encoding, offset, len) yz_range_canonical(list, TABLE, 8, encoding, offset, 0, output, len)
+#define CANONICAL(list, encoding, offset, len) by->canonical(list, TABLE, 8, encoding, offset, 0, output, len)
 
 static void test_range_canonical(void) {
     WRITES(CANONICAL(TOUCHING, little(5, 4), 0, 11), TOUCHING_CANONICAL, 11);
     WRITES(CANONICAL(TOUCHING, little(5, 4), 0, 64), TOUCHING_CANONICAL, 11);
     WRITES(CANONICAL(S("\x03\0\x20\0"), little(5, 4), 0, 64), TOUCHING_CANONICAL, 11);
     WRITES(CANONICAL(NO_BYTES, little(5, 4), 0, 1), "", 1);
-    WRITES(yz_range_canonical(S("\x09\x01\x21\0\0"), NO_BYTES, 0, big(4, 1), 1, 0x0f, output, 64), TOUCHING_CANONICAL, 11);
+    WRITES(by->canonical(S("\x09\x01\x21\0\0"), NO_BYTES, 0, big(4, 1), 1, 0x0f, output, 64), TOUCHING_CANONICAL, 11);
     WRITES(CANONICAL(S("\x07\x20\0\0\x10\x07\x10\0\0\x10\0"), little(5, 3), 0, 11), TOUCHING_CANONICAL, 11);
-    WRITES(yz_range_canonical(S("\x03\0\x20\0"), TABLE_3, 8, little(5, 3), 0, 0, output, 64), TOUCHING_CANONICAL, 11);
+    WRITES(by->canonical(S("\x03\0\x20\0"), TABLE_3, 8, little(5, 3), 0, 0, output, 64), TOUCHING_CANONICAL, 11);
     /* The same addresses, whatever the size, the order and the version. */
     WRITES(CANONICAL(S("\x06\x01\x02\x03\x04\x05\x06\0"), little(5, 3), 0, 13), THREE_CANONICAL, 13);
     WRITES(CANONICAL(S("\x06\x03\x02\x01\x06\x05\x04\0"), big(5, 3), 0, 13), THREE_CANONICAL, 13);
@@ -2712,7 +2819,7 @@ static void test_range_canonical(void) {
     REFUSES_OUTPUT(CANONICAL(S("\x06\x10\0"), little(5, 3), 0, 64), CUT_SHORT);
     REFUSES_OUTPUT(CANONICAL(NO_BYTES, little(5, 3), 1, 64), CUT_SHORT);
     REFUSES_OUTPUT(CANONICAL(TOUCHING, little(5, 4), 0, 10), NO_ROOM);
-    REFUSES_OUTPUT(yz_range_canonical(TOUCHING, NO_BYTES, 0, little(5, 4), 0, 0, NO_BYTES), NO_ROOM);
+    REFUSES_OUTPUT(by->canonical(TOUCHING, NO_BYTES, 0, little(5, 4), 0, 0, NO_BYTES), NO_ROOM);
     REFUSES_OUTPUT(CANONICAL(S("\0"), little(5, 4), 0, 0), NO_ROOM);
     REFUSES_OUTPUT(CANONICAL(S("\x08"), little(5, 4), 0, 0), REFUSED(YZ_UNKNOWN_RANGE_LISTS_ENTRY, 8));
     REFUSES_OUTPUT(CANONICAL(S("\x07\x20\0\0\0\x10\x02\0\x02\0"), little(5, 4), 0, 64), CUT_SHORT);
@@ -2774,6 +2881,465 @@ static void test_is_canonical(void) {
     CHECK(!yz_is_canonical(S("\x08")));
 }
 
+/* ---- Kind numbers. The supplier's table of the scope's examples has the codes 10 to 17 but 12 and 13. ---- */
+
+/* A table that is put together, and bytes past it. */
+static uint8_t kinds[2 * YZ_KIND_CODES];
+#define KINDS kinds, YZ_KIND_CODES
+#define ONE_BYTE_MORE kinds, YZ_KIND_CODES + 1
+#define ALL_KINDS kinds, sizeof kinds
+
+static void no_kinds(void) { memset(kinds, YZ_NO_KIND, sizeof kinds); }
+
+static void kinds_are(const uint8_t *table) {
+    no_kinds();
+    memcpy(kinds, table, YZ_KIND_CODES);
+}
+
+static void kinds_from_10(void) {
+    no_kinds();
+    kinds[0x10] = 0;
+    kinds[0x11] = 1;
+    kinds[0x14] = 4;
+    kinds[0x15] = 5;
+    kinds[0x16] = 6;
+    kinds[0x17] = 7;
+}
+
+#define NO_CODE(code) REFUSED(YZ_UNKNOWN_RANGE_LISTS_ENTRY, code)
+#define LOADS(...) IS(done, yz_kinds_load(__VA_ARGS__), DONE)
+#define NO_TABLE(...) IS(done, yz_kinds_load(__VA_ARGS__), REFUSED(YZ_BAD_KIND_TABLE, 0))
+
+/* Whether a table may be loaded, as the scope says it. */
+static bool is_table(void) {
+    unsigned codes_of[8] = {0, 0, 0, 0, 0, 0, 0, 0};
+    size_t i;
+    for (i = 0; i < YZ_KIND_CODES; i++) {
+        if (kinds[i] == YZ_NO_KIND) continue;
+        if (kinds[i] > 7 || ++codes_of[kinds[i]] > 1) return false;
+    }
+    return codes_of[0] == 1;
+}
+
+static void test_kinds_load(void) {
+    unsigned code, number, other;
+    bool all = true;
+    CHECK(YZ_KIND_CODES == 256 && YZ_NO_KIND == 255);
+    kinds_are(dwarf_kinds);
+    LOADS(KINDS);
+    LOADS(supplier_kinds, sizeof supplier_kinds);
+    kinds_from_10();
+    LOADS(KINDS);
+    /* Another length, whatever the bytes. */
+    NO_TABLE(NO_BYTES);
+    NO_TABLE(S(""));
+    kinds_are(dwarf_kinds);
+    for (code = 0; code <= sizeof kinds; code++)
+        if (code != YZ_KIND_CODES) NO_TABLE(kinds, code);
+    /* Kind 0 has none, one, two codes, or all of them. */
+    no_kinds();
+    NO_TABLE(KINDS);
+    for (code = 0; code < YZ_KIND_CODES; code++) {
+        no_kinds();
+        kinds[code] = 0;
+        LOADS(KINDS);
+    }
+    kinds[0] = 0;
+    NO_TABLE(KINDS);
+    memset(kinds, 0, sizeof kinds);
+    NO_TABLE(KINDS);
+    kinds_are(dwarf_kinds);
+    kinds[0] = YZ_NO_KIND;
+    NO_TABLE(KINDS);
+    /* A kind has two codes, or none. */
+    for (number = 0; number < 8; number++) {
+        kinds_are(dwarf_kinds);
+        kinds[8] = (uint8_t)number;
+        NO_TABLE(KINDS);
+        kinds[8] = YZ_NO_KIND;
+        kinds[255] = (uint8_t)number;
+        NO_TABLE(KINDS);
+        kinds[number] = YZ_NO_KIND;
+        LOADS(KINDS);
+        kinds[255] = YZ_NO_KIND;
+        if (number > 0) LOADS(KINDS);
+    }
+    /* A byte is neither, in the first place and in the last. */
+    for (number = 8; number < YZ_NO_KIND; number++) {
+        kinds_are(dwarf_kinds);
+        kinds[255] = (uint8_t)number;
+        NO_TABLE(KINDS);
+        no_kinds();
+        kinds[255] = 0;
+        LOADS(KINDS);
+        kinds[0] = (uint8_t)number;
+        NO_TABLE(KINDS);
+    }
+    /* Each byte changed to each; and each two swapped. */
+    for (code = 0; code < YZ_KIND_CODES; code++)
+        for (number = 0; number < 256; number++) {
+            kinds_are(dwarf_kinds);
+            kinds[code] = (uint8_t)number;
+            if ((yz_kinds_load(KINDS).result == YZ_DONE) != is_table()) all = false;
+        }
+    CHECK(all);
+    for (code = 0; code < YZ_KIND_CODES; code++)
+        for (other = 0; other < 8; other++) {
+            kinds_are(dwarf_kinds);
+            kinds[other] = kinds[code];
+            kinds[code] = (uint8_t)other;
+            if (yz_kinds_load(KINDS).result != YZ_DONE) all = false;
+        }
+    CHECK(all);
+}
+
+/* Both calls that read an entry, by a table. */
+#define NEXT_BY(list, encoding, table, at, base_address, entries, ...)                                               \
+    STEP(range, yz_range_next_by(list, TABLE, 8, encoding, table, &walk), at, base_address, entries, __VA_ARGS__)
+#define RAW_BY(list, encoding, table, at, base_address, entries, ...)                                                \
+    STEP(raw_range, yz_range_next_raw_by(list, encoding, table, &walk), at, base_address, entries, __VA_ARGS__)
+/* Each of them on a list's begin, where it hands out no entry. */
+#define NONE_BY(list, encoding, table, at, entries, ...)                                                             \
+    do {                                                                                                             \
+        ranges_from(0, 7);                                                                                           \
+        STEP(range, yz_range_next_by(list, TABLE, 8, encoding, table, &walk), at, 7, entries, __VA_ARGS__);          \
+        ranges_from(0, 7);                                                                                           \
+        STEP(raw_range, yz_range_next_raw_by(list, encoding, table, &walk), at, 7, entries, __VA_ARGS__);            \
+    } while (0)
+
+/* What a call answers to the one code of a list by a table of that many bytes 00: the end, or past the table a refusal. */
+static bool ends_before(size_t table_len) {
+    unsigned code;
+    memset(kinds, 0, sizeof kinds);
+    for (code = 0; code < 256; code++) {
+        const uint8_t list[] = {(uint8_t)code, 0};
+        const bool there = code < table_len;
+        yz_range range;
+        yz_raw_range raw;
+        walk_from(0, 0, 0);
+        range = yz_range_next_by(list, 2, NO_BYTES, 0, little(5, 4), kinds, table_len, &walk);
+        if (!walk_is(2, 0, there, 0)) return false;
+        walk_from(0, 0, 0);
+        raw = yz_range_next_raw_by(list, 2, little(5, 4), kinds, table_len, &walk);
+        if (!walk_is(2, 0, there, 0)) return false;
+        if (range.result != (there ? YZ_END : YZ_REFUSED) || raw.result != range.result) return false;
+        if (there) continue;
+        if (range.refusal != YZ_UNKNOWN_RANGE_LISTS_ENTRY || range.refusal_value != code) return false;
+        if (raw.refusal != YZ_UNKNOWN_RANGE_LISTS_ENTRY || raw.refusal_value != code) return false;
+    }
+    return true;
+}
+
+/* Tables that were not loaded. */
+static void unloaded_tables(void) {
+    unsigned number;
+    size_t len;
+    NONE_BY(S("\0"), little(5, 4), NO_BYTES, 1, 0, NO_CODE(0));
+    NONE_BY(S("\0"), little(5, 4), S(""), 1, 0, NO_CODE(0));
+    NONE_BY(S("\x01\0\0"), little(5, 4), S("\0"), 3, 0, NO_CODE(1));
+    NONE_BY(S("\x01\0"), little(5, 4), S("\0\x08"), 2, 0, NO_CODE(1));
+    NONE_BY(S("\x01\x05"), little(5, 4), S("\0\0"), 2, 1, END);
+#define FIVE S("\0\x01\x02\x03\x04")
+    ranges_from(0, 0);
+    NEXT_BY(S("\x04\x01\x05\0"), little(5, 4), FIVE, 3, 0, 1, DONE, 1, 5);
+    NEXT_BY(S("\x04\x01\x05\0"), little(5, 4), FIVE, 4, 0, 2, END);
+    NONE_BY(S("\x07\x10\0\0\0\x08\0"), little(5, 4), FIVE, 7, 0, NO_CODE(7));
+#undef FIVE
+    for (len = 0; len <= YZ_KIND_CODES; len++)
+        CHECK(ends_before(len));
+    CHECK(ends_before(sizeof kinds));
+    /* 8 to 254 is no kind, and by no number cut to fewer bits; 255 is none. */
+    for (number = 8; number < 256; number++) {
+        kinds_are(dwarf_kinds);
+        kinds[4] = (uint8_t)number;
+        NONE_BY(S("\x04\x01\x05\0"), little(5, 4), KINDS, 4, 0, NO_CODE(4));
+        kinds[0xfe] = 0;
+        NONE_BY(S("\xfe\x04"), little(5, 4), KINDS, 2, 1, END);
+    }
+    /* Two codes for a kind, and none for the end: the section's end is one. */
+    no_kinds();
+    kinds[4] = 4;
+    kinds[0xff] = 4;
+    ranges_from(0, 0);
+    NEXT_BY(S("\x04\x01\x05\xff\x06\x07"), little(5, 4), KINDS, 3, 0, 1, DONE, 1, 5);
+    NEXT_BY(S("\x04\x01\x05\xff\x06\x07"), little(5, 4), KINDS, 6, 0, 2, DONE, 6, 7);
+    NEXT_BY(S("\x04\x01\x05\xff\x06\x07"), little(5, 4), KINDS, 6, 0, 2, END);
+    NONE_BY(S("\0"), little(5, 4), KINDS, 1, 0, NO_CODE(0));
+    /* Bytes past the first 256 are no codes'. */
+    no_kinds();
+    kinds[YZ_KIND_CODES] = 0;
+    kinds[YZ_KIND_CODES + 4] = 4;
+    NONE_BY(S("\0"), little(5, 4), ALL_KINDS, 1, 0, NO_CODE(0));
+    NONE_BY(S("\x04\x01\x05\0"), little(5, 4), ALL_KINDS, 4, 0, NO_CODE(4));
+    kinds_are(dwarf_kinds);
+    ranges_from(0, 0);
+    NEXT_BY(S("\x04\x01\x05\0"), little(5, 4), ONE_BYTE_MORE, 3, 0, 1, DONE, 1, 5);
+    /* The list's own bytes as its table: 0 is no kind there, 1 the end, and 4 has 1. */
+    NONE_BY(S("\x01\0\x09\x09\x01"), little(5, 4), S("\x09\0\x09\x09\x01"), 5, 1, END);
+}
+
+#define ANY_TABLE table, table_len
+
+/* Bare pairs by tables that would refuse every code, end the list or make something else of it. */
+static void bare_pairs(void (*walks)(const uint8_t *, size_t)) {
+    unsigned number;
+    walks(NO_BYTES);
+    walks(S("\0"));
+    walks(S("\x01\0\x02\0\0\0\0\0"));
+    walks(ALL_KINDS);
+    for (number = 0; number < 256; number++) {
+        memset(kinds, (int)number, sizeof kinds);
+        walks(KINDS);
+    }
+}
+
+#define BARE S("\x01\0\x02\0\xff\xff\0\x20\x04\0\x07\0\0\0\0\0\x01")
+
+static void bare_next(const uint8_t *table, size_t table_len) {
+    ranges_from(0, 0);
+    NEXT_BY(S("\x01\0\x02\0\0\0\0\0"), little(4, 2), ANY_TABLE, 4, 0, 1, DONE, 1, 2);
+    NEXT_BY(S("\x01\0\x02\0\0\0\0\0"), little(4, 2), ANY_TABLE, 8, 0, 2, END);
+    ranges_from(0, 0);
+    NEXT_BY(BARE, little(2, 2), ANY_TABLE, 4, 0, 1, DONE, 1, 2);
+    NEXT_BY(BARE, little(2, 2), ANY_TABLE, 12, 0x2000, 3, DONE, 0x2004, 0x2007);
+    NEXT_BY(BARE, little(2, 2), ANY_TABLE, 17, 0x2000, 4, END);
+}
+
+static void test_range_next_by(void) {
+    const yz_range_entry base = range_entry(YZ_RLE_BASE_ADDRESS, 0x200, 0);
+    by_tables(test_range_next);
+    by_tables(marks_of_ranges);
+    by_tables(ranges_again);
+    kinds_from_10();
+    ranges_from(0, 0x1000);
+    NEXT_BY(S("\x14\x01\x05\x10"), little(5, 4), KINDS, 3, 0x1000, 1, DONE, 0x1001, 0x1005);
+    NEXT_BY(S("\x14\x01\x05\x10"), little(5, 4), KINDS, 4, 0x1000, 2, END);
+    ranges_from(0, 0);
+    NEXT_BY(S("\x17\x10\0\0\0\x08\x10"), little(5, 4), KINDS, 6, 0, 1, DONE, 0x10, 0x18);
+    NEXT_BY(S("\x17\x10\0\0\0\x08\x10"), little(5, 4), KINDS, 7, 0, 2, END);
+    /* Operands are no codes. */
+    ranges_from(0, 0x1000);
+    NEXT_BY(S("\x14\x04\x05\x10"), little(5, 4), KINDS, 3, 0x1000, 1, DONE, 0x1004, 0x1005);
+    ranges_from(0, 0x1000);
+    NEXT_BY(S("\x14\x14\x17\x10"), little(6, 4), KINDS, 3, 0x1000, 1, DONE, 0x1014, 0x1017);
+    ranges_from(0, 0);
+    NEXT_BY(S("\x11\x01\x14\x10\x11\x10"), little(5, 4), KINDS, 5, 0x20, 2, DONE, 0x30, 0x31);
+    /* What follows the end isn't read. */
+    NONE_BY(S("\x10\x14"), little(5, 4), KINDS, 2, 1, END);
+    NONE_BY(S("\0"), little(5, 4), KINDS, 1, 0, NO_CODE(0));
+    NONE_BY(S("\x04\x01\x05\0"), little(5, 4), KINDS, 4, 0, NO_CODE(4));
+    NONE_BY(S("\xff\x01\x05\x10"), little(5, 4), KINDS, 4, 0, NO_CODE(0xff));
+    NONE_BY(S("\x13\x01\x05\x10"), little(5, 4), KINDS, 4, 0, NO_CODE(0x13));
+    /* The code that is refused, an emptied walk, and a mark before. */
+#define LIST S("\x14\x01\x05\x99\x14\x06\x07\x10")
+    no_marks();
+    OPENS(yz_range_open(LIST, little(5, 4), 0, 0, &walk), 0, 0, 0);
+    NEXT_BY(LIST, little(5, 4), KINDS, 3, 0, 1, DONE, 1, 5);
+    SETS(3);
+    NEXT_BY(LIST, little(5, 4), KINDS, 8, 0, 1, NO_CODE(0x99));
+    NEXT_BY(LIST, little(5, 4), KINDS, 8, 0, 1, END);
+    RAW_BY(LIST, little(5, 4), KINDS, 8, 0, 1, END);
+    RETURNS(3, 3, 0, 1, 0);
+    NEXT_BY(LIST, little(5, 4), KINDS, 8, 0, 1, NO_CODE(0x99));
+    /* By another table it goes on, and so it does by none. */
+    RETURNS(3, 3, 0, 1, 0);
+    kinds[0x99] = 0;
+    NEXT_BY(LIST, little(5, 4), KINDS, 8, 0, 2, END);
+    RETURNS(3, 3, 0, 1, 0);
+    NEXT(LIST, TABLE, little(5, 4), 8, 0, 1, NO_CODE(0x99));
+#undef LIST
+#define LIST S("\x14\x01\x05\x04\x06\x07\x10\0")
+    kinds_from_10();
+    OPENS(yz_range_open(LIST, little(5, 4), 0, 0x100, &walk), 0, 0x100, 0);
+    NEXT_BY(LIST, little(5, 4), KINDS, 3, 0x100, 1, DONE, 0x101, 0x105);
+    STEP(range, yz_range_convert_raw(TABLE, 8, little(5, 4), base, &walk), 3, 0x200, 1, COMES_TO_NOTHING);
+    NEXT(LIST, TABLE, little(5, 4), 6, 0x200, 2, DONE, 0x206, 0x207);
+    NEXT_BY(LIST, little(5, 4), KINDS, 8, 0x200, 3, END);
+#undef LIST
+    /* The address table's refusals, and what is refused of an entry. */
+#define LIST S("\x11\x02\x11\x01\x14\x01\x02\x14\x01")
+    ranges_from(0, 7);
+    NEXT_BY(LIST, little(5, 4), KINDS, 2, 7, 1, CUT_SHORT);
+    NEXT_BY(LIST, little(5, 4), KINDS, 7, 0x20, 3, DONE, 0x21, 0x22);
+    NEXT_BY(LIST, little(5, 4), KINDS, 9, 0x20, 3, CUT_SHORT);
+    NEXT_BY(LIST, little(5, 4), KINDS, 9, 0x20, 3, END);
+#undef LIST
+    NONE_BY(S("\x14" NINE "\x02\x01"), little(5, 4), KINDS, 12, 0, REFUSED(YZ_BAD_UNSIGNED_LEB128, 0));
+    ranges_from(0, 7);
+    NEXT_BY(S("\x11" INDEX_2_61 "\x10"), little(5, 8), KINDS, 10, 7, 1, TOO_FAR);
+    /* Walks made by hand. */
+    ranges_from(MAX, 7);
+    walk.entries = MAX;
+    NEXT_BY(S("\x14\x01\x05\x10"), little(5, 4), KINDS, MAX, 7, MAX, END);
+    NEXT_BY(NO_BYTES, little(5, 4), NO_BYTES, MAX, 7, MAX, END);
+    ranges_from(1, MAX);
+    walk.entries = MAX - 1;
+    NEXT_BY(S("\x99\x14\x01\x05\x10"), little(5, 8), KINDS, 5, MAX, MAX, END);
+    ranges_from(3, 7);
+    walk.entries = MAX;
+    NEXT_BY(S("\x14\x01\x05\x10"), little(5, 4), KINDS, 4, 7, MAX, END);
+    /* 6 before all else. */
+    NONE_BY(S("\x14\x01\x05\x10"), little(5, 5), KINDS, 4, 0, BAD_SIZE(5));
+    NONE_BY(S("\x99"), little(5, 0), NO_BYTES, 1, 0, BAD_SIZE(0));
+    NONE_BY(NO_BYTES, little(4, 255), NO_BYTES, 0, 0, BAD_SIZE(255));
+    ranges_from(MAX, 7);
+    NEXT_BY(S("\x99"), little(5, 9), NO_BYTES, 1, 7, 0, BAD_SIZE(9));
+    NEXT_BY(S("\x99"), little(5, 9), NO_BYTES, 1, 7, 0, BAD_SIZE(9));
+    unloaded_tables();
+    bare_pairs(bare_next);
+}
+
+static void bare_next_raw(const uint8_t *table, size_t table_len) {
+    ranges_from(0, 7);
+    RAW_BY(BARE, little(4, 2), ANY_TABLE, 4, 7, 1, DONE, YZ_RLE_ADDRESS_OR_OFFSET_PAIR, 1, 2, 0);
+    RAW_BY(BARE, little(4, 2), ANY_TABLE, 8, 7, 2, DONE, YZ_RLE_BASE_ADDRESS, 0x2000, 0, 0);
+    RAW_BY(BARE, little(4, 2), ANY_TABLE, 12, 7, 3, DONE, YZ_RLE_ADDRESS_OR_OFFSET_PAIR, 4, 7, 0);
+    RAW_BY(BARE, little(4, 2), ANY_TABLE, 17, 7, 4, END);
+}
+
+static void test_range_next_raw_by(void) {
+    by_tables(test_range_next_raw);
+    by_tables(ranges_converted);
+    /* One entry of each kind that has a code, by its number; some have padded numbers. */
+    kinds_from_10();
+#define LIST S("\x11\x89\0\x14\x04\x05\x14\x84\0\x05\x15\x33\x16\x02\x03\x17\x01\x82\0\x10\x14")
+    ranges_from(0, 7);
+    RAW_BY(LIST, little(5, 1), KINDS, 3, 7, 1, DONE, YZ_RLE_BASE_ADDRESSX, 9, 0, 1);
+    RAW_BY(LIST, little(5, 1), KINDS, 6, 7, 2, DONE, YZ_RLE_OFFSET_PAIR, 4, 5, 0);
+    RAW_BY(LIST, little(5, 1), KINDS, 10, 7, 3, DONE, YZ_RLE_OFFSET_PAIR, 4, 5, 1);
+    RAW_BY(LIST, little(5, 1), KINDS, 12, 7, 4, DONE, YZ_RLE_BASE_ADDRESS, 0x33, 0, 0);
+    RAW_BY(LIST, little(5, 1), KINDS, 15, 7, 5, DONE, YZ_RLE_START_END, 2, 3, 0);
+    RAW_BY(LIST, little(5, 1), KINDS, 19, 7, 6, DONE, YZ_RLE_START_LENGTH, 1, 2, 1);
+    RAW_BY(LIST, little(5, 1), KINDS, 21, 7, 7, END);
+#undef LIST
+    /* A code that has a kind as DWARF's number, and a kind that is no code of its own. */
+    no_kinds();
+    kinds[7] = 1;
+    kinds[1] = 7;
+    kinds[4] = 0;
+    ranges_from(0, 7);
+    RAW_BY(S("\x07\x01\x01\x05\x06\x04"), little(5, 1), KINDS, 2, 7, 1, DONE, YZ_RLE_BASE_ADDRESSX, 1, 0, 0);
+    RAW_BY(S("\x07\x01\x01\x05\x06\x04"), little(5, 1), KINDS, 5, 7, 2, DONE, YZ_RLE_START_LENGTH, 5, 6, 0);
+    RAW_BY(S("\x07\x01\x01\x05\x06\x04"), little(5, 1), KINDS, 6, 7, 3, END);
+    NONE_BY(S("\0"), little(5, 1), KINDS, 1, 0, NO_CODE(0));
+    bare_pairs(bare_next_raw);
+}
+
+#define LOOKUP_BY(list, encoding, offset, table, address, ...)                                                       \
+    IS(range, yz_range_lookup_by(list, TABLE, 8, encoding, offset, 0x40, table, address), __VA_ARGS__)
+
+static void bare_lookup(const uint8_t *table, size_t table_len) {
+    LOOKUP_BY(BARE, little(4, 2), 0, ANY_TABLE, 0x41, DONE, 0x41, 0x42);
+    LOOKUP_BY(BARE, little(3, 2), 4, ANY_TABLE, 0x2006, DONE, 0x2004, 0x2007);
+    LOOKUP_BY(BARE, little(4, 2), 0, ANY_TABLE, 0x42, NOT_THERE);
+}
+
+static void test_range_lookup_by(void) {
+    by_tables(test_range_lookup);
+    kinds_from_10();
+#define LIST S("\x17\x10\0\0\0\x08\x14\x01\x05\x99\x10")
+    LOOKUP_BY(LIST, little(5, 4), 0, KINDS, 0x12, DONE, 0x10, 0x18);
+    LOOKUP_BY(LIST, little(5, 4), 0, KINDS, 0x44, DONE, 0x41, 0x45);
+    LOOKUP_BY(LIST, little(5, 4), 6, KINDS, 0x12, NO_CODE(0x99));
+    LOOKUP_BY(LIST, little(5, 4), 10, KINDS, 0x12, NOT_THERE);
+    LOOKUP_BY(LIST, little(5, 4), 11, KINDS, 0x12, NOT_THERE);
+    LOOKUP_BY(LIST, little(5, 4), 12, KINDS, 0x12, CUT_SHORT);
+    LOOKUP_BY(LIST, little(5, 4), 0, S("\0\x01\x02\x03\x04\x05\x06\x07"), 0x12, NO_CODE(0x17));
+    LOOKUP_BY(LIST, little(5, 4), 0, NO_BYTES, 0x12, NO_CODE(0x17));
+    LOOKUP_BY(LIST, little(5, 4), MAX, NO_BYTES, 0x12, CUT_SHORT);
+    LOOKUP_BY(LIST, little(5, 7), MAX, NO_BYTES, 0x12, BAD_SIZE(7));
+#undef LIST
+    LOOKUP_BY(S("\x07\x10\0\0\0\x08\0"), little(5, 4), 0, KINDS, 0x12, NO_CODE(7));
+    bare_pairs(bare_lookup);
+}
+
+/* The ranges that touch, and a list with code 99, both by the codes from 10 on. */
+#define TOUCHING_FROM_10 S("\x17\x20\0\0\0\x10\x17\x10\0\0\0\x10\x10")
+#define ENDS_IN_99 S("\x17\x20\0\0\0\x10\x99\x10")
+
+#define COVER_BY(list, encoding, offset, table)                                                                      \
+    yz_range_coverage_by(list, TABLE, 8, encoding, offset, 0, table, &begins, &ends)
+
+static void bare_coverage(const uint8_t *table, size_t table_len) {
+    COVERS(COVER_BY(BARE, little(4, 2), 0, ANY_TABLE), 2);
+    CHECK(range_is(0, 1, 2) && range_is(1, 0x2004, 0x2007));
+}
+
+static void test_range_coverage_by(void) {
+    by_tables(test_range_coverage);
+    kinds_from_10();
+    COVERS(COVER_BY(TOUCHING_FROM_10, little(5, 4), 0, KINDS), 1);
+    CHECK(range_is(0, 0x10, 0x30));
+    COVERS(COVER_BY(TOUCHING_FROM_10, little(5, 4), 12, KINDS), 0);
+    COVERS(COVER_BY(NO_BYTES, little(5, 4), 0, NO_BYTES), 0);
+    REFUSES_COVERAGE(COVER_BY(ENDS_IN_99, little(5, 4), 0, KINDS), NO_CODE(0x99));
+    REFUSES_COVERAGE(COVER_BY(TOUCHING_FROM_10, little(5, 4), 0, NO_BYTES), NO_CODE(0x17));
+    REFUSES_COVERAGE(COVER_BY(TOUCHING, little(5, 4), 0, KINDS), NO_CODE(7));
+    REFUSES_COVERAGE(COVER_BY(TOUCHING_FROM_10, little(5, 4), MAX, NO_BYTES), CUT_SHORT);
+    REFUSES_COVERAGE(COVER_BY(TOUCHING_FROM_10, little(5, 5), MAX, NO_BYTES), BAD_SIZE(5));
+    /* A code for the end in place of one for the kind. */
+    memset(kinds, 0, sizeof kinds);
+    COVERS(COVER_BY(APART(YZ_LIMIT + 1), little(5, 4), 0, KINDS), 0);
+    bare_pairs(bare_coverage);
+}
+
+#define RUNS_BY(list, encoding, offset, table, b, e)                                                                 \
+    yz_range_runs_by(list, TABLE, 8, encoding, offset, 0, table, INTO(b, e))
+
+static void bare_runs(const uint8_t *table, size_t table_len) {
+    PUTS(RUNS_BY(BARE, little(4, 2), 0, ANY_TABLE, 2, 2), 2);
+    CHECK(run_is(0, 1, 2) && run_is(1, 0x2004, 0x2007));
+    REFUSES_RUNS(RUNS_BY(BARE, little(4, 2), 0, ANY_TABLE, 1, 2), NO_ROOM);
+}
+
+static void test_range_runs_by(void) {
+    by_tables(test_range_runs);
+    kinds_from_10();
+    PUTS(RUNS_BY(TOUCHING_FROM_10, little(5, 4), 0, KINDS, 1, 3), 1);
+    CHECK(run_is(0, 0x10, 0x30));
+    PUTS(RUNS_BY(S("\x10"), little(5, 4), 0, KINDS, 0, 0), 0);
+    REFUSES_RUNS(RUNS_BY(TOUCHING_FROM_10, little(5, 4), 0, KINDS, 0, 1), NO_ROOM);
+    REFUSES_RUNS(RUNS_BY(TOUCHING_FROM_10, little(5, 4), 0, KINDS, 1, 0), NO_ROOM);
+    /* 11 comes last. */
+    REFUSES_RUNS(RUNS_BY(ENDS_IN_99, little(5, 4), 0, KINDS, 0, 0), NO_CODE(0x99));
+    REFUSES_RUNS(RUNS_BY(TOUCHING_FROM_10, little(5, 4), 0, NO_BYTES, 0, 0), NO_CODE(0x17));
+    REFUSES_RUNS(RUNS_BY(TOUCHING, little(5, 4), 0, KINDS, 2, 2), NO_CODE(7));
+    REFUSES_RUNS(RUNS_BY(TOUCHING_FROM_10, little(5, 4), MAX, NO_BYTES, 0, 0), CUT_SHORT);
+    REFUSES_RUNS(RUNS_BY(TOUCHING_FROM_10, little(5, 6), MAX, NO_BYTES, 0, 0), BAD_SIZE(6));
+    bare_pairs(bare_runs);
+}
+
+#define CANONICAL_BY(list, encoding, offset, table, len)                                                             \
+    yz_range_canonical_by(list, TABLE, 8, encoding, offset, 0, table, output, len)
+
+static void bare_canonical(const uint8_t *table, size_t table_len) {
+    WRITES(CANONICAL_BY(S("\x10\0\x30\0\0\0\0\0"), little(4, 2), 0, ANY_TABLE, 11), TOUCHING_CANONICAL, 11);
+}
+
+static void test_range_canonical_by(void) {
+    by_tables(test_range_canonical);
+    kinds_from_10();
+    REFUSES_OUTPUT(CANONICAL_BY(ENDS_IN_99, little(5, 4), 0, KINDS, 64), NO_CODE(0x99));
+    REFUSES_OUTPUT(CANONICAL_BY(TOUCHING_FROM_10, little(5, 4), 0, NO_BYTES, 0), NO_CODE(0x17));
+    REFUSES_OUTPUT(CANONICAL_BY(TOUCHING, little(5, 4), 0, KINDS, 64), NO_CODE(7));
+    REFUSES_OUTPUT(CANONICAL_BY(TOUCHING_FROM_10, little(5, 4), 0, KINDS, 10), NO_ROOM);
+    REFUSES_OUTPUT(CANONICAL_BY(TOUCHING_FROM_10, little(5, 4), MAX, NO_BYTES, 0), CUT_SHORT);
+    REFUSES_OUTPUT(CANONICAL_BY(TOUCHING_FROM_10, little(5, 7), MAX, NO_BYTES, 0), BAD_SIZE(7));
+    WRITES(CANONICAL_BY(S("\x10"), little(5, 4), 0, KINDS, 1), "", 1);
+#define WRITTEN_OUT output, 11
+    /* It has DWARF's own numbers: the calls without a table read it, and by the list's table it is none. */
+    WRITES(CANONICAL_BY(TOUCHING_FROM_10, little(5, 4), 0, KINDS, 64), TOUCHING_CANONICAL, 11);
+    CHECK(yz_is_canonical(WRITTEN_OUT));
+    COVERS(yz_coverage_from_canonical(WRITTEN_OUT, &begins, &ends), 1);
+    CHECK(range_is(0, 0x10, 0x30));
+    ranges_from(0, 0);
+    NEXT(WRITTEN_OUT, TABLE, little(5, 8), 10, 0, 1, DONE, 0x10, 0x30);
+    NEXT(WRITTEN_OUT, TABLE, little(5, 8), 11, 0, 2, END);
+    REFUSES_COVERAGE(COVER_BY(WRITTEN_OUT, little(5, 8), 0, KINDS), NO_CODE(7));
+#undef WRITTEN_OUT
+    bare_pairs(bare_canonical);
+}
+
 static const struct { const char *name; void (*run)(void); } tests[] = {
     {"yz_version", test_version},
     {"yz_uleb128", test_uleb128},
@@ -2824,6 +3390,13 @@ static const struct { const char *name; void (*run)(void); } tests[] = {
     {"yz_range_canonical", test_range_canonical},
     {"yz_location_canonical", test_location_canonical},
     {"yz_is_canonical", test_is_canonical},
+    {"yz_kinds_load", test_kinds_load},
+    {"yz_range_next_by", test_range_next_by},
+    {"yz_range_next_raw_by", test_range_next_raw_by},
+    {"yz_range_lookup_by", test_range_lookup_by},
+    {"yz_range_coverage_by", test_range_coverage_by},
+    {"yz_range_runs_by", test_range_runs_by},
+    {"yz_range_canonical_by", test_range_canonical_by},
 };
 
 int main(int argc, char **argv) {
@@ -2839,6 +3412,7 @@ int main(int argc, char **argv) {
             printf("%u %s\n", (unsigned)i, yz_refusal_name((yz_refusal)i));
         return 0;
     }
+    make_tables();
     for (i = 0; i < count; i++) {
         test = tests[i].name;
         tests[i].run();

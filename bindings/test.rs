@@ -80,6 +80,13 @@ const TESTS: &[Test] = &[
     ("yz_range_canonical", range_canonical),
     ("yz_location_canonical", location_canonical),
     ("yz_is_canonical", is_canonical),
+    ("yz_kinds_load", kinds_load),
+    ("yz_range_next_by", range_next_by),
+    ("yz_range_next_raw_by", range_next_raw_by),
+    ("yz_range_lookup_by", range_lookup_by),
+    ("yz_range_coverage_by", range_coverage_by),
+    ("yz_range_runs_by", range_runs_by),
+    ("yz_range_canonical_by", range_canonical_by),
 ];
 
 /// What the wrapper has beside its calls.
@@ -88,6 +95,7 @@ const MORE_TESTS: &[Test] = &[
     ("Error::MixedByteOrders", byte_orders),
     ("Iterator", iterators),
     ("Marked", marked),
+    ("KindTable", kind_tables),
     ("the end of every walk", ends),
 ];
 
@@ -154,7 +162,7 @@ fn join(parts: &[&[u8]]) -> Vec<u8> {
 
 fn versions(c: &mut Checks) {
     c.same(version(), VERSION);
-    c.same(VERSION, 7);
+    c.same(VERSION, 8);
     c.same((LIMIT, SHEET_MAX, CANONICAL_MAX), (3000, 48_004, 57_001));
     c.same(MARKS, 8);
 }
@@ -173,6 +181,7 @@ fn errors(c: &mut Checks) {
     c.same(unknown, Error::Unknown(u64::MAX, u64::MAX));
     c.same(Error::from_number(22, 9).to_string(), "22 Unknown 0x9".to_string());
     c.same((NO_MARK.to_string(), NO_MARK.value()), ("13 NoSuchMark".to_string(), None));
+    c.same((NO_TABLE.to_string(), NO_TABLE.value()), ("19 BadKindTable".to_string(), None));
     let mixed = Error::MixedByteOrders;
     c.same((mixed.number(), mixed.value(), mixed.name()), (0, None, "MixedByteOrders"));
 }
@@ -1812,7 +1821,7 @@ fn marked_ranges(bytes: &[u8], encoding: Encoding, base_address: u64) -> Marked<
 }
 
 /// The next range, and the walk's place and count then.
-fn next_range(walk: &mut RngListIter<'_>) -> Step<Range> {
+fn next_range<K: Kinds>(walk: &mut RngListIter<'_, K>) -> Step<Range> {
     (walk.next(), walk.place(), walk.entries())
 }
 
@@ -2497,6 +2506,368 @@ fn is_canonical(c: &mut Checks) {
     }
 }
 
+// Kind numbers
+
+const NO_TABLE: Error = Error::BadKindTable;
+
+/// A table with a code for each of some kinds.
+fn table_with(codes: &[(u8, u8)]) -> [u8; 256] {
+    let mut table = [NO_KIND; 256];
+    for &(code, kind) in codes {
+        table[usize::from(code)] = kind;
+    }
+    table
+}
+
+/// A table's bytes that are loaded.
+fn loaded(table: &[u8]) -> KindTable {
+    KindTable::load(table).expect("a table")
+}
+
+/// The supplier's table of the scope's examples.
+fn kinds_from_10() -> KindTable {
+    loaded(&table_with(&[(0x10, 0), (0x11, 1), (0x14, 4), (0x15, 5), (0x16, 6), (0x17, 7)]))
+}
+
+/// Another supplier's code for each kind. Some are other kinds' numbers.
+const CODES: [u8; 8] = [0x10, 0xfe, 0x03, 0x02, 0x07, 0, 0x80, 0x04];
+
+fn supplier_kinds() -> KindTable {
+    let codes: Vec<(u8, u8)> = CODES.into_iter().zip(0..).collect();
+    loaded(&table_with(&codes))
+}
+
+/// A list with these codes in place of the kinds that reading meets; bare pairs have none. None where a
+/// byte that is no kind is one of the codes.
+fn recoded(list: &[u8], encoding: Encoding) -> Option<Vec<u8>> {
+    let (mut bytes, mut at) = (list.to_vec(), 0);
+    while encoding.version >= 5 && at < list.len() {
+        let kind = list[at];
+        let Some(&code) = CODES.get(usize::from(kind)) else {
+            return (!CODES.contains(&kind)).then_some(bytes);
+        };
+        bytes[at] = code;
+        if kind == 0 {
+            break;
+        }
+        at += 1;
+        for operand in RANGE_OPERANDS[usize::from(kind)].chars() {
+            at += match operand {
+                'a' => usize::from(encoding.address_size),
+                _ => 1 + list.iter().skip(at).take_while(|&&byte| byte > 0x7f).count(),
+            };
+        }
+    }
+    Some(bytes)
+}
+
+fn kinds_load(c: &mut Checks) {
+    let load = |table: &[u8]| KindTable::load(table).map(|kinds| kinds.bytes().to_vec());
+    let (ok, refused) = (|table: &[u8]| Ok(table.to_vec()), Err(NO_TABLE));
+    let own: [(u8, u8); 8] = std::array::from_fn(|kind| (kind as u8, kind as u8));
+    let dwarf = table_with(&own);
+    c.same(load(&dwarf), ok(&dwarf));
+    c.same(KindTable::DWARF.bytes(), &dwarf);
+    c.same(KindTable::load(&dwarf), Ok(KindTable::DWARF));
+    c.same(load(supplier_kinds().bytes()), ok(supplier_kinds().bytes()));
+    // Another length, whatever the bytes.
+    for length in (0..=512).filter(|&length| length != 256) {
+        c.same(load(&join(&[&dwarf, &[NO_KIND; 256]])[..length]), refused.clone());
+    }
+    for code in 0..=255 {
+        let one = table_with(&[(code, 0)]);
+        c.same(load(&one), ok(&one));
+    }
+    for table in [[NO_KIND; 256], [0; 256], table_with(&[(0, 0), (0xff, 0)]), table_with(&own[1..])]
+    {
+        c.same(load(&table), refused.clone());
+    }
+    for kind in 0..8 {
+        c.same(load(&table_with(&[&own[..], &[(8, kind)]].concat())), refused.clone());
+        let moved = table_with(&[&own[..], &[(kind, NO_KIND), (0xff, kind)]].concat());
+        c.same(load(&moved), ok(&moved));
+        let without = table_with(&[&own[..], &[(kind, NO_KIND)]].concat());
+        c.same(load(&without), if kind == 0 { refused.clone() } else { ok(&without) });
+    }
+    // Each byte changed to each: 8 to 254 is none, and no kind may have two codes or 0 none.
+    for (code, number) in (0..=255).flat_map(|code| (0..=255).map(move |number| (code, number))) {
+        let table = table_with(&[&own[..], &[(code, number)]].concat());
+        let codes = |kind| table.iter().filter(|&&number| number == kind).count();
+        let lawful = table.iter().all(|&number| number < 8 || number == NO_KIND)
+            && (0..8).all(|kind| codes(kind) < 2)
+            && codes(0) == 1;
+        c.same(KindTable::load(&table).is_ok(), lawful);
+    }
+}
+
+/// What a walk by a table hands out, with its places and counts.
+fn steps_by(kinds: &KindTable, bytes: &[u8], encoding: Encoding, base: u64) -> Vec<Step<Range>> {
+    let (lists, table) = (range_lists(bytes, Little).with_kinds(kinds), table_of(4));
+    let mut walk =
+        lists.ranges(RangeListsOffset(0), encoding, base, &table, DebugAddrBase(8)).unwrap();
+    steps(|| next_range(&mut walk))
+}
+
+fn range_next_by(c: &mut Checks) {
+    let (kinds, five, end) = (kinds_from_10(), encoding(5, 4), Ok(None));
+    let by = |bytes: &[u8], base_address| steps_by(&kinds, bytes, five, base_address);
+    let is = |begin, end| Ok(Some(at(begin, end)));
+    let no_code = |code| Err(Error::UnknownRangeListsEntry(code));
+    c.same(
+        by(&[0x14, 1, 5, 0x10], 0x1000),
+        vec![(is(0x1001, 0x1005), 3, 1), (end, 4, 2), (end, 4, 2)],
+    );
+    c.same(
+        by(&[0x17, 0x10, 0, 0, 0, 8, 0x10], 0),
+        vec![(is(0x10, 0x18), 6, 1), (end, 7, 2), (end, 7, 2)],
+    );
+    c.same(by(&[0x14, 4, 5, 0x10], 0x1000)[0], (is(0x1004, 0x1005), 3, 1));
+    c.same(by(&[0x14, 0x14, 0x17, 0x10], 0x1000)[0], (is(0x1014, 0x1017), 3, 1));
+    c.same(by(&[0x11, 1, 0x14, 0x10, 0x11, 0x10], 0)[0], (is(0x30, 0x31), 5, 2));
+    c.same(by(&[0x10, 0x14], 0), vec![(end, 2, 1), (end, 2, 1)]);
+    c.same(by(&[], 0), vec![(end, 0, 0), (end, 0, 0)]);
+    for code in [0, 4, 7, 8, 0x12, 0x13, 0x18, 0x99, 0xff] {
+        let refused = no_code(code.into());
+        c.same(by(&[code, 1, 5, 0x10], 0), vec![(refused, 4, 0), (end, 4, 0), (end, 4, 0)]);
+        c.same(
+            by(&[0x14, 1, 5, code], 0),
+            vec![(is(1, 5), 3, 1), (refused, 4, 1), (end, 4, 1), (end, 4, 1)],
+        );
+    }
+    // A failed lookup, and what is refused of an entry.
+    c.same(
+        by(&[0x11, 2, 0x11, 1, 0x14, 1, 2, 0x14, 1], 7),
+        vec![(Err(EOF), 2, 1), (is(0x21, 0x22), 7, 3), (Err(EOF), 9, 3), (end, 9, 3), (end, 9, 3)],
+    );
+    // 6 when it is opened, before all else.
+    let (lists, none) = (range_lists(&[0x99], Little).with_kinds(&kinds), DebugAddr::default());
+    let open = |offset, size| {
+        let walk =
+            lists.ranges(RangeListsOffset(offset), encoding(5, size), 0, &none, DebugAddrBase(0));
+        let raw = lists.raw_ranges(RangeListsOffset(offset), encoding(5, size));
+        (walk.map(|walk| walk.place()), raw.map(|walk| walk.place()))
+    };
+    let size = Err(Error::UnsupportedAddressSize(5));
+    c.same((open(u64::MAX, 5), open(2, 4)), ((size, size), (Err(EOF), Err(EOF))));
+    c.same(open(1, 4), (Ok(1), Ok(1)));
+    // Marks, and the walk's clone.
+    let list = [0x15, 0, 0x10, 0, 0, 0x14, 1, 2, 0x99];
+    let lists = range_lists(&list, Little).with_kinds(&kinds);
+    let walk = lists.ranges(RangeListsOffset(0), five, 0, &none, DebugAddrBase(0)).unwrap();
+    let mut walk = Marked::new(walk);
+    let behind = [(is(0x1001, 0x1002), 8, 2), (no_code(0x99), 9, 2), (end, 9, 2)];
+    c.same((walk.set_mark(7), [(); 3].map(|_| next_range(&mut walk))), (Ok(()), behind));
+    c.same((walk.return_to(7), [(); 3].map(|_| next_range(&mut walk))), (Ok(()), behind));
+    no_mark(c, &mut walk, Marked::return_to, 6);
+    // Bare pairs.
+    let bare = [1, 0, 2, 0, 0xff, 0xff, 0, 0x20, 4, 0, 7, 0, 0, 0, 0, 0, 1];
+    for kinds in [kinds_from_10(), supplier_kinds(), loaded(&table_with(&[(0xff, 0)]))] {
+        for version in [2, 4] {
+            c.same(
+                steps_by(&kinds, &bare, encoding(version, 2), 0),
+                vec![(is(1, 2), 4, 1), (is(0x2004, 0x2007), 12, 3), (end, 17, 4), (end, 17, 4)],
+            );
+        }
+    }
+}
+
+fn range_next_raw_by(c: &mut Checks) {
+    use RawRngListEntry::*;
+    let (kinds, one) = (kinds_from_10(), encoding(5, 1));
+    let list = [
+        0x11, 0x89, 0, 0x14, 4, 5, 0x14, 0x84, 0, 5, 0x15, 0x33, 0x16, 2, 3, 0x17, 1, 0x82, 0,
+        0x10, 0x14,
+    ];
+    let noted = [
+        (BaseAddressx { addr: DebugAddrIndex(9) }, true, 3),
+        (OffsetPair { begin: 4, end: 5 }, false, 6),
+        (OffsetPair { begin: 4, end: 5 }, true, 10),
+        (BaseAddress { addr: 0x33 }, false, 12),
+        (StartEnd { begin: 2, end: 3 }, false, 15),
+        (StartLength { begin: 1, length: 2 }, true, 19),
+    ];
+    let expected: Vec<Step<Noted<RawRngListEntry>>> = noted
+        .into_iter()
+        .zip(1..)
+        .map(|((entry, padded, place), n)| (Ok(Some(Noted { entry, padded })), place, n))
+        .chain([(Ok(None), 21, 7), (Ok(None), 21, 7)])
+        .collect();
+    let lists = range_lists(&list, Little).with_kinds(&kinds);
+    let mut walk = lists.raw_ranges(RangeListsOffset(0), one).unwrap();
+    c.same(steps(|| (walk.next_noted(), walk.place(), walk.entries())), expected.clone());
+    let table = DebugAddr::default();
+    let open = || lists.ranges(RangeListsOffset(0), one, 0, &table, DebugAddrBase(0)).unwrap();
+    let mut walk = open();
+    c.same(steps(|| (walk.next_raw_noted(), walk.place(), walk.entries())), expected);
+    c.same(
+        lists.raw_ranges(RangeListsOffset(0), one).unwrap().collect::<Vec<_>>(),
+        noted.map(|(entry, ..)| Ok(entry)).to_vec(),
+    );
+    // What they come to, handed back as they are; the first is refused by the table that isn't there.
+    let mut walk = open();
+    let converted: Vec<_> =
+        std::iter::from_fn(|| walk.next_raw().ok()?.map(|raw| walk.convert_raw(raw))).collect();
+    let ranges = [Some(at(4, 5)), Some(at(4, 5)), None, Some(at(2, 3)), Some(at(1, 3))];
+    c.same(converted, join_results(Err(EOF), &ranges));
+    // A code without a kind.
+    for code in [0, 7, 0x12, 0xff] {
+        let bytes = [code, 1, 2];
+        let lists = range_lists(&bytes, Little).with_kinds(&kinds);
+        let mut walk = lists.raw_ranges(RangeListsOffset(0), one).unwrap();
+        let refused = Err(Error::UnknownRangeListsEntry(code.into()));
+        c.same((walk.next(), walk.place(), walk.entries()), (refused, 3, 0));
+        c.same((walk.next_noted(), walk.place(), walk.entries()), (Ok(None), 3, 0));
+    }
+}
+
+/// A refusal, and then answers.
+fn join_results<T: Copy>(first: Result<T>, then: &[T]) -> Vec<Result<T>> {
+    std::iter::once(first).chain(then.iter().map(|item| Ok(*item))).collect()
+}
+
+/// The ranges that touch, and a list with code 99, both by the codes from 10 on.
+const TOUCHING_FROM_10: &[u8] = &[0x17, 0x20, 0, 0, 0, 0x10, 0x17, 0x10, 0, 0, 0, 0x10, 0x10];
+const ENDS_IN_99: &[u8] = &[0x17, 0x20, 0, 0, 0, 0x10, 0x99, 0x10];
+const NO_CODE_99: Error = Error::UnknownRangeListsEntry(0x99);
+const NO_CODE_7: Error = Error::UnknownRangeListsEntry(7);
+
+fn range_lookup_by(c: &mut Checks) {
+    let kinds = kinds_from_10();
+    let lookup = |bytes: &[u8], size, offset, address| {
+        let (lists, table) = (range_lists(bytes, Little).with_kinds(&kinds), table_of(4));
+        let (offset, encoding) = (RangeListsOffset(offset), encoding(5, size));
+        lists.lookup(offset, encoding, 0x40, &table, DebugAddrBase(8), address)
+    };
+    let list = [0x17, 0x10, 0, 0, 0, 8, 0x14, 1, 5, 0x99, 0x10];
+    c.same(lookup(&list, 4, 0, 0x12), Ok(Some(at(0x10, 0x18))));
+    c.same(lookup(&list, 4, 0, 0x44), Ok(Some(at(0x41, 0x45))));
+    c.same(lookup(&list, 4, 6, 0x12), Err(NO_CODE_99));
+    c.same(lookup(&list, 4, 10, 0x12), Ok(None));
+    c.same(lookup(&list, 4, 12, 0x12), Err(EOF));
+    c.same(lookup(&list, 7, 12, 0x12), Err(Error::UnsupportedAddressSize(7)));
+    c.same(lookup(&[7, 0x10, 0, 0, 0, 8, 0], 4, 0, 0x12), Err(NO_CODE_7));
+}
+
+fn range_coverage_by(c: &mut Checks) {
+    let kinds = kinds_from_10();
+    let cover = |bytes: &[u8], size, offset| {
+        let (lists, table) = (range_lists(bytes, Little).with_kinds(&kinds), table_of(4));
+        let (offset, encoding) = (RangeListsOffset(offset), encoding(5, size));
+        is(lists.coverage(offset, encoding, 0, &table, DebugAddrBase(8)))
+    };
+    c.same(cover(TOUCHING_FROM_10, 4, 0), Ok(vec![at(0x10, 0x30)]));
+    c.same(cover(TOUCHING_FROM_10, 4, 12), Ok(vec![]));
+    c.same(cover(ENDS_IN_99, 4, 0), Err(NO_CODE_99));
+    c.same(cover(TOUCHING, 4, 0), Err(NO_CODE_7));
+    c.same(cover(TOUCHING_FROM_10, 4, u64::MAX), Err(EOF));
+    c.same(cover(TOUCHING_FROM_10, 5, u64::MAX), Err(Error::UnsupportedAddressSize(5)));
+}
+
+fn range_runs_by(c: &mut Checks) {
+    let kinds = kinds_from_10();
+    let runs = |bytes: &[u8], size, offset, b, e| {
+        let (lists, table) = (range_lists(bytes, Little).with_kinds(&kinds), table_of(4));
+        let (offset, encoding) = (RangeListsOffset(offset), encoding(5, size));
+        let base = DebugAddrBase(8);
+        put(b, e, |begins, ends| lists.runs(offset, encoding, 0, &table, base, begins, ends))
+    };
+    c.same(runs(TOUCHING_FROM_10, 4, 0, 1, 3), holding(1, 3, &[(0x10, 0x30)]));
+    c.same(runs(TOUCHING_FROM_10, 4, 12, 0, 0), holding(0, 0, &[]));
+    c.same(runs(TOUCHING_FROM_10, 4, 0, 0, 1), left(0, 1, Error::NoSpace));
+    c.same(runs(TOUCHING_FROM_10, 4, 0, 1, 0), left(1, 0, Error::NoSpace));
+    c.same(runs(ENDS_IN_99, 4, 0, 0, 2), left(0, 2, NO_CODE_99));
+    c.same(runs(TOUCHING, 4, 0, 2, 2), left(2, 2, NO_CODE_7));
+    c.same(runs(TOUCHING, 4, u64::MAX, 2, 2), left(2, 2, EOF));
+    c.same(runs(TOUCHING, 9, u64::MAX, 0, 0), left(0, 0, Error::UnsupportedAddressSize(9)));
+}
+
+fn range_canonical_by(c: &mut Checks) {
+    let kinds = kinds_from_10();
+    let write = |bytes: &[u8], size, offset, len| {
+        let (lists, table) = (range_lists(bytes, Little).with_kinds(&kinds), table_of(4));
+        let (offset, encoding) = (RangeListsOffset(offset), encoding(5, size));
+        into(len, |o| {
+            let list = lists.canonical(offset, encoding, 0, &table, DebugAddrBase(8), o);
+            list.map(|list| list.bytes().len())
+        })
+    };
+    let expected = (Ok(11), join(&[TOUCHING_CANONICAL, &[0xee]]));
+    c.same(write(TOUCHING_FROM_10, 4, 0, 12), expected);
+    c.same(write(TOUCHING_FROM_10, 4, 0, 10), untouched(10, Error::NoSpace));
+    c.same(write(&[0x10], 4, 0, 1), (Ok(1), vec![0]));
+    c.same(write(ENDS_IN_99, 4, 0, 0), untouched(0, NO_CODE_99));
+    c.same(write(TOUCHING, 4, 0, 16), untouched(16, NO_CODE_7));
+    c.same(write(TOUCHING, 4, u64::MAX, 16), untouched(16, EOF));
+    c.same(write(TOUCHING, 0, u64::MAX, 16), untouched(16, Error::UnsupportedAddressSize(0)));
+    // It has DWARF's own numbers: by the list's table it is none.
+    let back = CanonicalList::new(TOUCHING_CANONICAL);
+    c.same((back.is_canonical(), is(back.coverage())), (true, Ok(vec![at(0x10, 0x30)])));
+    c.same(write(TOUCHING_CANONICAL, 8, 0, 16), untouched(16, NO_CODE_7));
+}
+
+/// All that the calls over a list answer.
+fn answers<K: Kinds>(lists: RangeLists<'_, K>, encoding: Encoding) -> Vec<String> {
+    let (at_0, table, base) =
+        (RangeListsOffset(0), table_of(encoding.address_size), DebugAddrBase(8));
+    let open = || lists.ranges(at_0, encoding, 0x10, &table, base).unwrap();
+    let (mut walk, mut noted, mut raw) =
+        (open(), open(), lists.raw_ranges(at_0, encoding).unwrap());
+    let mut all = vec![
+        words(&steps(|| next_range(&mut walk))),
+        words(&steps(|| (noted.next_raw_noted(), noted.place(), noted.entries()))),
+        words(&steps(|| (raw.next_noted(), raw.place(), raw.entries()))),
+        words(&open().collect::<Vec<_>>()),
+        words(&is(lists.coverage(at_0, encoding, 0x10, &table, base))),
+        words(&put(9, 9, |b, e| lists.runs(at_0, encoding, 0x10, &table, base, b, e))),
+        words(&into(99, |o| {
+            lists.canonical(at_0, encoding, 0x10, &table, base, o).map(|list| list.bytes().len())
+        })),
+    ];
+    for address in [0, 3, 0x10, 0x11, 0x20, 0xff] {
+        all.push(words(&lists.lookup(at_0, encoding, 0x10, &table, base, address)));
+    }
+    all
+}
+
+/// Lists by DWARF's own numbers, and by a supplier's with the supplier's codes in place of the kinds,
+/// answer as without a table; offsets of the table of lists have no kinds.
+fn kind_tables(c: &mut Checks) {
+    let (dwarf, supplier, mut byte) = (KindTable::DWARF, supplier_kinds(), byte_source());
+    let mut lists: Vec<Vec<u8>> =
+        [RANGE_KINDS, BASE_AND_PAIRS, THREE, TOUCHING, TOUCHING_3, TABLE, LISTS, EIGHT]
+            .map(<[u8]>::to_vec)
+            .to_vec();
+    lists.extend((0..300).map(|_| (0..40).map(|_| byte() % 10).collect()));
+    lists.extend((0..100).map(|_| (0..40).map(|_| byte()).collect()));
+    let (mut compared, mut unlike) = (0, 0);
+    for list in &lists {
+        for (version, size) in [4, 5, 6].into_iter().flat_map(|v| [1, 2, 3, 4, 8].map(|s| (v, s))) {
+            let encoding = encoding(version, size);
+            let plain = answers(range_lists(list, Little), encoding);
+            let by_dwarf = range_lists(list, Little).with_kinds(&dwarf);
+            c.same(answers(by_dwarf, encoding), plain.clone());
+            let Some(recoded) = recoded(list, encoding) else { continue };
+            let by_supplier = range_lists(&recoded, Little).with_kinds(&supplier);
+            c.same(answers(by_supplier, encoding), plain.clone());
+            // The last table that is given counts.
+            c.same(
+                answers(by_supplier.with_kinds(&dwarf).with_kinds(&supplier), encoding),
+                plain.clone(),
+            );
+            compared += 1;
+            unlike += usize::from(answers(range_lists(&recoded, Little), encoding) != plain);
+        }
+    }
+    // Of the lists of small bytes four in five begin with a kind, and are others without their table.
+    c.same((compared > 5000, unlike > 2000), (true, true));
+    let by = range_lists(LISTS, Little).with_kinds(&supplier);
+    let get =
+        |index| by.get_offset(encoding(5, 4), DebugRngListsBase(12), DebugRngListsIndex(index));
+    c.same((get(0), get(1)), (Ok(RangeListsOffset(20)), Ok(RangeListsOffset(22))));
+    c.same((by.debug_ranges().reader().len(), by.debug_rnglists().reader().len()), (22, 22));
+    c.same(RangeLists::default().debug_rnglists().reader().len(), 0);
+}
+
 // Beside the calls
 
 /// Bytes in no order, the same in every run.
@@ -2548,14 +2919,23 @@ fn marked(c: &mut Checks) {
 
     let mut byte = byte_source();
     let (four, five, one) = (encoding(4, 4), encoding(5, 4), encoding(5, 1));
-    let in_ranges = |walk: &mut RngListIter<'_>, choice: u8| match choice % 8 {
-        4 => words(&walk.next_raw()),
-        5 => words(&walk.convert_raw(RawRngListEntry::BaseAddress { addr: choice.into() })),
-        _ => words(&walk.next()),
-    };
+    fn in_ranges<K: Kinds>(walk: &mut RngListIter<'_, K>, choice: u8) -> String {
+        match choice % 8 {
+            4 => words(&walk.next_raw()),
+            5 => words(&walk.convert_raw(RawRngListEntry::BaseAddress { addr: choice.into() })),
+            _ => words(&walk.next()),
+        }
+    }
     beside_copies(c, &mut byte, open_ranges(BASE_AND_PAIRS, five, 0), in_ranges);
     beside_copies(c, &mut byte, open_ranges(RANGE_KINDS, one, 7), in_ranges);
     let raw = range_lists(RANGE_KINDS, Little).raw_ranges(RangeListsOffset(0), one).unwrap();
+    beside_copies(c, &mut byte, raw, |walk, _| words(&walk.next()));
+    let (kinds, at_0) = (supplier_kinds(), RangeListsOffset(0));
+    let recoded = recoded(RANGE_KINDS, one).expect("a list of kinds");
+    let lists = range_lists(&recoded, Little).with_kinds(&kinds);
+    let walk = lists.ranges(at_0, one, 7, &table_of(1), DebugAddrBase(8)).unwrap();
+    beside_copies(c, &mut byte, walk, in_ranges);
+    let raw = lists.raw_ranges(at_0, one).unwrap();
     beside_copies(c, &mut byte, raw, |walk, _| words(&walk.next()));
     let in_locations = |walk: &mut LocListIter<'_>, choice: u8| match choice % 8 {
         4 => words(&walk.next_raw()),
@@ -2586,6 +2966,13 @@ fn byte_orders(c: &mut Checks) {
         c.same(ranges.coverage(at_0, five, 0, &table, base), Err(mixed));
         c.same(put(1, 1, |b, e| ranges.runs(at_0, five, 0, &table, base, b, e)), left(1, 1, mixed));
         c.same(ranges.canonical(at_0, five, 0, &table, base, &mut output), Err(mixed));
+        let kinds = KindTable::DWARF;
+        let by = ranges.with_kinds(&kinds);
+        c.same(by.ranges(at_0, five, 0, &table, base).map(|_| ()), Err(mixed));
+        c.same(by.lookup(at_0, five, 0, &table, base, 0), Err(mixed));
+        c.same(by.coverage(at_0, five, 0, &table, base), Err(mixed));
+        c.same(put(1, 1, |b, e| by.runs(at_0, five, 0, &table, base, b, e)), left(1, 1, mixed));
+        c.same(by.canonical(at_0, five, 0, &table, base, &mut output), Err(mixed));
         c.same(locations.locations(l_at_0, five, 0, &table, base).map(|_| ()), Err(mixed));
         c.same(locations.locations_dwo(l_at_0, five, 0, &table, base).map(|_| ()), Err(mixed));
         c.same(locations.lookup(l_at_0, five, main, 0, &table, base, 0), Err(mixed));
@@ -2655,16 +3042,20 @@ fn ends(c: &mut Checks) {
     let mut byte = byte_source();
     let table = DebugAddr::new(TABLE, Little);
     let (base, at_0, l_at_0) = (DebugAddrBase(8), RangeListsOffset(0), LocationListsOffset(0));
+    let kinds = supplier_kinds();
     for size in 0..=255 {
         // Few kinds are above 8, so that many entries are met.
         let bytes: Vec<u8> =
             (0..200).map(|_| if byte() < 250 { byte() % 9 } else { byte() }).collect();
         let (ranges, locations) = (range_lists(&bytes, Little), location_lists(&bytes, Little));
+        let by = ranges.with_kinds(&kinds);
         for version in [0, 4, 5, 65535] {
             let encoding = encoding(version, size);
             let walks = [
                 ranges.ranges(at_0, encoding, 0, &table, base).map(items),
                 ranges.raw_ranges(at_0, encoding).map(items),
+                by.ranges(at_0, encoding, 0, &table, base).map(items),
+                by.raw_ranges(at_0, encoding).map(items),
                 locations.locations(l_at_0, encoding, 0, &table, base).map(items),
                 locations.locations_dwo(l_at_0, encoding, 0, &table, base).map(items),
                 locations.raw_locations(l_at_0, encoding).map(items),

@@ -27,6 +27,7 @@
  *   file_type                   whether the section is of a .dwo file: then location lists of every version have kinds
  *   offset, or at               where the list begins in the section, or what is read
  *   base_address                DW_AT_low_pc of the unit
+ *   kinds, kinds_len            the bytes of a table of kind numbers, where the call's name ends in _by
  *   the rest                    what is asked for, then what is written to
  *
  * A loop over a walk stops at the end and on a refusal:
@@ -56,7 +57,7 @@ extern "C" {
 #endif
 
 /* The version of this interface; it changes with every change of a struct, a number or a call. */
-#define YZ_VERSION 7
+#define YZ_VERSION 8
 
 /* The version of the library that is linked; the header is for it where this is YZ_VERSION. */
 uint32_t yz_version(void);
@@ -70,12 +71,12 @@ typedef enum yz_result {
     YZ_REFUSED = 4    /* refusal and refusal_value say why */
 } yz_result;
 
-/* The refusals by number; refusal_value where there is one. No call gives 14 to 21 yet. */
+/* The refusals by number; refusal_value where there is one. No call gives 14 to 18, 20 or 21 yet. */
 typedef enum yz_refusal {
     YZ_NO_REFUSAL = 0,                /* with every result but YZ_REFUSED */
     YZ_UNEXPECTED_EOF = 1,            /* bytes are missing */
     YZ_BAD_UNSIGNED_LEB128 = 2,       /* the tenth byte is above 01 */
-    YZ_UNKNOWN_RANGE_LISTS_ENTRY = 3, /* a range kind above 7; the kind */
+    YZ_UNKNOWN_RANGE_LISTS_ENTRY = 3, /* a range kind above 7, or a code without a kind; the kind or the code */
     YZ_UNKNOWN_LOC_LISTS_ENTRY = 4,   /* a location kind above 8; the kind */
     YZ_UNKNOWN_VERSION = 5,           /* a header's version is not 5; the version */
     YZ_UNSUPPORTED_ADDRESS_SIZE = 6,  /* not 1, 2, 3, 4 or 8; the size */
@@ -91,7 +92,7 @@ typedef enum yz_refusal {
     YZ_TOMBSTONE = 16,                /* a base address or a begin is at or above the tombstone bound */
     YZ_BACKWARD_RANGE = 17,           /* a range's begin is above its end */
     YZ_ADDRESS_TOO_LARGE = 18,        /* a range is too large for the address size of an older list */
-    YZ_BAD_KIND_TABLE = 19,           /* no table of kind numbers */
+    YZ_BAD_KIND_TABLE = 19,           /* no table of kind numbers that can be loaded */
     YZ_TOO_MANY_ADDRESSES = 20,       /* more than 64 addresses */
     YZ_DESCENDING_ADDRESSES = 21      /* an address is above the one after it */
 } yz_refusal;
@@ -201,6 +202,10 @@ typedef struct yz_walk {
     uint64_t entries;      /* how many entries were read since it was opened, the end mark among them; 2^64 - 1 stays */
     uint64_t split;        /* not 0: a location list of a .dwo file, as told at its opening; range lists don't read it */
 } yz_walk;
+
+/* How many bytes a table of kind numbers has, and the byte of a code that has no kind. */
+#define YZ_KIND_CODES 256
+#define YZ_NO_KIND 255
 
 /* How many marks a walk has; they are numbered from 0 on. */
 #define YZ_MARKS 8
@@ -584,6 +589,61 @@ yz_count yz_location_canonical(const uint8_t *section, size_t section_len, const
 
 /* Whether the bytes, no more and no fewer, are the canonical list of some coverage. */
 bool yz_is_canonical(const uint8_t *bytes, size_t bytes_len);
+
+/* ---- Kind numbers: range lists of a compiler that has codes of its own for the kinds of entries. A table has YZ_KIND_CODES
+ * bytes; the byte at a code, counted from 0, is the number of the code's kind, 0 to 7 as DWARF 5 has them with 0 for the end of
+ * the list, or YZ_NO_KIND. With the bytes 0 to 7 and 248 times 255 the calls below answer as those without _by do.
+ *
+ * yz_kinds_load says whether bytes are a table that is whole and in itself right; it keeps nothing, and each call is lent the
+ * table. A call asks for no loading: it answers with any bytes, of any length, NULL and 0 among them. In these 8 to 254 are read
+ * as 255, and so is a code past their end, while bytes past the first 256 can't be asked; codes may share a kind, and where none
+ * has 0 a list ends with its section.
+ *
+ * An entry is read as one whose first byte were the number of its kind; its other bytes are no codes. A code without a kind is
+ * refused with 3 and that code, the list's own byte, as an entry that is not read. All else is as for the call without _by:
+ * yz_range_open opens the walk; refusal 6 comes before all else; base addresses, counts, padded and marks are the same; and a
+ * walk may be carried on by either call, or by another table. Bare pairs, up to version 4, have no codes: any table gives the
+ * same answers. Location lists have no tables.
+ *
+ * The table belongs to the list that it is lent for, and to nothing made of the list: coverages and canonical lists say nothing
+ * of it, and a canonical list is walked by the calls without _by. ---- */
+
+/* Whether bytes are a table. Done, or refused: 19 where they are not 256, where one is 8 to 254, where a kind from 0 to 7 has two
+ * codes, and where 0 has none. Any of the kinds 1 to 7 may have none, and any number of codes no kind. */
+yz_done yz_kinds_load(const uint8_t *table, size_t table_len);
+
+/* The next range by a table. Done, end, or refused as yz_range_next is. */
+yz_range yz_range_next_by(const uint8_t *section, size_t section_len, const uint8_t *debug_addr, size_t debug_addr_len,
+                          uint64_t debug_addr_base, yz_encoding encoding, const uint8_t *kinds, size_t kinds_len,
+                          yz_walk *walk);
+
+/* The next entry by a table, with the number of its kind, not its code: yz_range_convert_raw takes it as it is. Done, end, or
+ * refused as yz_range_next_raw is. */
+yz_raw_range yz_range_next_raw_by(const uint8_t *section, size_t section_len, yz_encoding encoding, const uint8_t *kinds,
+                                  size_t kinds_len, yz_walk *walk);
+
+/* The range by a table that holds an address. Done, not there, or refused as yz_range_lookup is. */
+yz_range yz_range_lookup_by(const uint8_t *section, size_t section_len, const uint8_t *debug_addr, size_t debug_addr_len,
+                            uint64_t debug_addr_base, yz_encoding encoding, uint64_t offset, uint64_t base_address,
+                            const uint8_t *kinds, size_t kinds_len, uint64_t address);
+
+/* The coverage by a table. Refused, and written, as by yz_range_coverage. */
+yz_count yz_range_coverage_by(const uint8_t *section, size_t section_len, const uint8_t *debug_addr,
+                              size_t debug_addr_len, uint64_t debug_addr_base, yz_encoding encoding, uint64_t offset,
+                              uint64_t base_address, const uint8_t *kinds, size_t kinds_len, yz_bounds *begins,
+                              yz_bounds *ends);
+
+/* The same at the front of arrays of any lengths, as yz_range_runs does it. Refused as yz_range_coverage_by is, then 11. */
+yz_count yz_range_runs_by(const uint8_t *section, size_t section_len, const uint8_t *debug_addr, size_t debug_addr_len,
+                          uint64_t debug_addr_base, yz_encoding encoding, uint64_t offset, uint64_t base_address,
+                          const uint8_t *kinds, size_t kinds_len, uint64_t *begins, size_t begins_len, uint64_t *ends,
+                          size_t ends_len);
+
+/* The canonical list by a table. Refused as yz_range_coverage_by is, then 11. */
+yz_count yz_range_canonical_by(const uint8_t *section, size_t section_len, const uint8_t *debug_addr,
+                               size_t debug_addr_len, uint64_t debug_addr_base, yz_encoding encoding, uint64_t offset,
+                               uint64_t base_address, const uint8_t *kinds, size_t kinds_len, uint8_t *output,
+                               size_t output_len);
 
 #ifdef __cplusplus
 }

@@ -5,7 +5,8 @@
 //! is a lent slice with a byte order; a list and the address table that it is read with have the
 //! same one, or are refused with [`Error::MixedByteOrders`]. Every walk has an end, since opening
 //! refuses an address size that isn't read. A walk is an [`Iterator`] too, as in gimli, and one that is
-//! [`Marked`] can be left and returned to.
+//! [`Marked`] can be left and returned to. Range lists of a compiler that numbers the kinds of entries in
+//! its own way are read by a [`KindTable`].
 //!
 //! A [`Coverage`] is held by value, 16 × [`LIMIT`] bytes wherever it stands. A call that makes one of
 //! a list takes less than 70 × [`LIMIT`] bytes of stack, and 100 × where nothing is optimized; one
@@ -79,6 +80,8 @@ mod error;
 mod ffi;
 #[path = "yeltzarun/iterators.rs"]
 mod iterators;
+#[path = "yeltzarun/kinds.rs"]
+mod kinds;
 #[path = "yeltzarun/lists.rs"]
 mod lists;
 #[path = "yeltzarun/loclists.rs"]
@@ -104,6 +107,7 @@ pub use coverage::{CANONICAL_MAX, CanonicalList, Coverage, SHEET_MAX, Sheet};
 pub use entries::{Expression, LocationListEntry, Noted, Range, RawLocListEntry, RawRngListEntry};
 pub use error::{Error, Result};
 pub use ffi::{LIMIT, MARKS};
+pub use kinds::{DwarfKinds, KindTable, Kinds, NO_KIND};
 pub use lists::ListsHeader;
 pub use loclists::{LocListIter, LocationLists, RawLocListIter};
 pub use marks::{ListWalk, Marked};
@@ -112,7 +116,7 @@ pub use rnglists::{RangeLists, RawRngListIter, RngListIter};
 pub use section::{DebugAddr, DebugLoc, DebugLocLists, DebugRanges, DebugRngLists};
 
 /// The version of the interface that this wrapper is for.
-pub const VERSION: u32 = 7;
+pub const VERSION: u32 = 8;
 
 /// The version of the library that is linked. Where it isn't [`VERSION`], its answers can't be
 /// understood.

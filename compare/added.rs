@@ -6,7 +6,7 @@
 use generator::{READ, Random};
 use oracle::oracle_api::*;
 
-use crate::differ::{Met, Port};
+use crate::differ::{Found, Met, Noted, Port};
 use crate::measure::Walk;
 
 /// How many ranges a coverage holds, and the walk that makes one may yield.
@@ -46,6 +46,18 @@ pub trait Added: Port {
     fn canonical_of(&self, list: &List, output: &mut [u8]) -> Wrote;
     fn set_mark(&self, number: u64, walk: &mut Words, marks: &mut Marks) -> Result<(), Refusal>;
     fn return_to(&self, number: u64, walk: &mut Words, marks: &mut Marks) -> Result<(), Refusal>;
+}
+
+/// The calls on range lists that take a table of kind numbers, and loading one. They
+/// are compared in `kinds`.
+pub trait Tabled: Added {
+    fn load_kinds(&self, table: &[u8]) -> Result<(), Refusal>;
+    fn next_by(&self, list: &List, kinds: &[u8], walk: State) -> (Answer<Yielded>, State);
+    fn next_raw_by(&self, list: &List, kinds: &[u8], walk: State) -> (Answer<Noted>, State);
+    fn lookup_by(&self, list: &List, kinds: &[u8], address: u64) -> Found;
+    fn coverage_by(&self, list: &List, kinds: &[u8], kept: &mut Kept) -> Wrote;
+    fn runs_by(&self, list: &List, kinds: &[u8], begins: &mut [u64], ends: &mut [u64]) -> Wrote;
+    fn canonical_by(&self, list: &List, kinds: &[u8], output: &mut [u8]) -> Wrote;
 }
 
 pub fn no<T>(number: u8) -> Result<T, Refusal> {

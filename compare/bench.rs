@@ -36,7 +36,7 @@ mod elf;
 
 use bench_gimli::{Covering, Heading, Lists, Marking, Putting, Seeking, Walking, Writing};
 use bench_gimli::{Entering, Numbering, SharedEntering, SharedNumbering};
-use bench_rows::{Kind, Row, Task};
+use bench_rows::{Kind, Row, Tabled, Task};
 use oracle::endianity::RunTimeEndian;
 use std::hint::black_box;
 
@@ -47,6 +47,40 @@ const SIDES: [&str; 3] = ["port", "one", "several"];
 
 /// Port, gimli with one caller, gimli with several.
 fn sides(row: &Row) -> [Run<'_>; 3] {
+    let [port, one, several] = untabled(row);
+    match row.tabled {
+        Some(tabled) => [by_table(row, tabled), one, several],
+        None => [port, one, several],
+    }
+}
+
+/// The port's side by a table.
+fn by_table(row: &Row, Tabled { kinds, section }: Tabled) -> Run<'_> {
+    let row = Row { section, ..row.clone() };
+    match row.task {
+        Task::Walk => Box::new(move |passes| bench_port::walk_ranges_by(&row, kinds, passes)),
+        Task::Raw => Box::new(move |passes| bench_port::raw_ranges_by(&row, kinds, passes)),
+        Task::Lookup(address) => {
+            Box::new(move |passes| bench_port::lookup_range_by(&row, kinds, address, passes))
+        }
+        Task::Coverage => {
+            let mut made = bench_sets::Coverage::new();
+            Box::new(move |passes| bench_port::coverage_by(&row, kinds, &mut made, passes))
+        }
+        Task::Runs => {
+            let mut made = bench_sets::Runs::new();
+            Box::new(move |passes| bench_port::runs_by(&row, kinds, &mut made, passes))
+        }
+        Task::Canonical => {
+            let mut output = vec![0; bench_sets::LONGEST];
+            Box::new(move |passes| bench_port::canonical_by(&row, kinds, &mut output, passes))
+        }
+        Task::Load => Box::new(move |passes| bench_port::load(kinds, passes)),
+        task => panic!("{}: {task:?} has no table", row.name),
+    }
+}
+
+fn untabled(row: &Row) -> [Run<'_>; 3] {
     match row.task {
         Task::Walk => walks(row),
         Task::Lookup(address) => lookups(row, address),
@@ -59,6 +93,7 @@ fn sides(row: &Row) -> [Run<'_>; 3] {
         Task::Marks => marks(row),
         Task::Raw => raws(row),
         Task::Numbers => numbers(row),
+        Task::Load => loads(row),
     }
 }
 
@@ -215,11 +250,18 @@ fn numbers(row: &Row) -> [Run<'_>; 3] {
     ]
 }
 
+/// gimli has no tables: all columns but the port's are the same plain Rust.
+fn loads(row: &Row) -> [Run<'_>; 3] {
+    let kinds = row.tabled.expect("a table").kinds;
+    [(); 3].map(|_| Box::new(move |passes| bench_sets::load(kinds, passes)) as Run<'_>)
+}
+
 /// Both sides must have read the same before anything is timed.
 fn check(row: &Row, runs: &mut [Run<'_>; 3]) {
     let lists = Lists::<RunTimeEndian>::new(row);
     let yielded = match (row.task, row.kind) {
         (Task::Headers, _) => bench_gimli::count_headers(&lists),
+        (Task::Load, _) => 1,
         (Task::Raw, Kind::Ranges) => bench_gimli::count_raw_ranges(&Lists::new(row)),
         (Task::Raw, _) => bench_gimli::count_raw_locations(&Lists::new(row)),
         (Task::Numbers, _) => bench_gimli::count_numbers(bench_gimli::section(row)),

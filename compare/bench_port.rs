@@ -73,22 +73,28 @@ pub fn walk_ranges(row: &Row, passes: u64) -> u64 {
 
 #[inline(never)]
 pub fn walk_ranges_once(row: &Row, encoding: &Encoding, offset: u64) -> u64 {
-    walk_ranges_with(row, encoding, offset, |_| {})
+    walk_ranges_with(row, encoding, offset, None, |_| {})
 }
 
-/// Behind each entry something is done with the walk.
+/// By a table, or without one; behind each entry something is done with the walk.
 #[inline(always)]
 fn walk_ranges_with(
     row: &Row,
     encoding: &Encoding,
     offset: u64,
+    kinds: Option<&[u8]>,
     mut behind: impl FnMut(&mut Walk),
 ) -> u64 {
     let ((s, n, t, m), encoding, table_base) = (lent(row), *encoding, row.table_base);
     let (mut walk, mut sum) = (Walk::default(), 0u64);
     open_ranges(row, encoding, offset, &mut walk);
     loop {
-        let next = unsafe { yz_range_next(s, n, t, m, table_base, encoding, &mut walk) };
+        let next = match kinds.map(|kinds| (kinds.as_ptr(), kinds.len())) {
+            None => unsafe { yz_range_next(s, n, t, m, table_base, encoding, &mut walk) },
+            Some((k, l)) => unsafe {
+                yz_range_next_by(s, n, t, m, table_base, encoding, k, l, &mut walk)
+            },
+        };
         match next.result {
             DONE => sum = sum.wrapping_add(next.item.begin) ^ next.item.end,
             END => return sum,
@@ -96,6 +102,17 @@ fn walk_ranges_with(
         }
         behind(&mut walk);
     }
+}
+
+#[inline(never)]
+pub fn walk_ranges_by(row: &Row, kinds: &[u8], passes: u64) -> u64 {
+    let encoding = encoding(row);
+    repeat!(passes, walk_ranges_by_once(black_box(row), black_box(&encoding), black_box(kinds)))
+}
+
+#[inline(never)]
+fn walk_ranges_by_once(row: &Row, encoding: &Encoding, kinds: &[u8]) -> u64 {
+    walk_ranges_with(row, encoding, row.offset, Some(kinds), |_| {})
 }
 
 #[inline(never)]
@@ -147,11 +164,30 @@ pub fn raw_ranges(row: &Row, passes: u64) -> u64 {
 
 #[inline(never)]
 fn raw_ranges_once(row: &Row, encoding: &Encoding) -> u64 {
+    raw_ranges_with(row, encoding, None)
+}
+
+#[inline(never)]
+pub fn raw_ranges_by(row: &Row, kinds: &[u8], passes: u64) -> u64 {
+    let encoding = encoding(row);
+    repeat!(passes, raw_ranges_by_once(black_box(row), black_box(&encoding), black_box(kinds)))
+}
+
+#[inline(never)]
+fn raw_ranges_by_once(row: &Row, encoding: &Encoding, kinds: &[u8]) -> u64 {
+    raw_ranges_with(row, encoding, Some(kinds))
+}
+
+#[inline(always)]
+fn raw_ranges_with(row: &Row, encoding: &Encoding, kinds: Option<&[u8]>) -> u64 {
     let ((s, n, ..), encoding) = (lent(row), *encoding);
     let (mut walk, mut sum) = (Walk::default(), 0u64);
     open_ranges(row, encoding, row.offset, &mut walk);
     loop {
-        let next = unsafe { yz_range_next_raw(s, n, encoding, &mut walk) };
+        let next = match kinds.map(|kinds| (kinds.as_ptr(), kinds.len())) {
+            None => unsafe { yz_range_next_raw(s, n, encoding, &mut walk) },
+            Some((k, l)) => unsafe { yz_range_next_raw_by(s, n, encoding, k, l, &mut walk) },
+        };
         let RangeEntry { kind, first, second } = next.item.entry;
         match next.result {
             DONE => sum = raw_sum(sum, kind, first, second),
@@ -231,7 +267,7 @@ pub fn mark_ranges(row: &Row, passes: u64) -> u64 {
 fn mark_ranges_once(row: &Row, encoding: &Encoding) -> u64 {
     let (mut marks, mut next) = (Marks::default(), 0);
     let behind = |walk: &mut Walk| there_and_back(&mut marks, &mut next, walk);
-    walk_ranges_with(row, encoding, row.offset, behind)
+    walk_ranges_with(row, encoding, row.offset, None, behind)
 }
 
 #[inline(never)]
@@ -266,12 +302,29 @@ pub fn lookup_range(row: &Row, address: u64, passes: u64) -> u64 {
 pub fn lookup_range_once(row: &Row, encoding: &Encoding, offset: u64, address: u64) -> u64 {
     let ((s, n, t, m), encoding, table_base) = (lent(row), *encoding, row.table_base);
     let base = row.base_address;
-    let found = unsafe { yz_range_lookup(s, n, t, m, table_base, encoding, offset, base, address) };
+    found_range(unsafe { yz_range_lookup(s, n, t, m, table_base, encoding, offset, base, address) })
+}
+
+#[inline(always)]
+fn found_range(found: Answer<Range>) -> u64 {
     match found.result {
         DONE => found.item.begin ^ found.item.end,
         NOT_THERE => 0,
         _ => refused(found.refusal),
     }
+}
+
+#[inline(never)]
+pub fn lookup_range_by(row: &Row, kinds: &[u8], address: u64, passes: u64) -> u64 {
+    let encoding = encoding(row);
+    repeat!(passes, {
+        let (row, encoding, kinds) = (black_box(row), *black_box(&encoding), black_box(kinds));
+        let ((s, n, t, m), k, l) = (lent(row), kinds.as_ptr(), kinds.len());
+        let (table_base, at, base) = (row.table_base, row.offset, row.base_address);
+        found_range(unsafe {
+            yz_range_lookup_by(s, n, t, m, table_base, encoding, at, base, k, l, address)
+        })
+    })
 }
 
 #[inline(never)]
@@ -345,6 +398,22 @@ pub fn range_coverage_once(row: &Row, encoding: &Encoding, offset: u64, made: &m
     });
 }
 
+#[inline(never)]
+pub fn coverage_by(row: &Row, kinds: &[u8], made: &mut Coverage, passes: u64) -> u64 {
+    let encoding = encoding(row);
+    repeat!(passes, {
+        let (row, encoding, kinds) = (black_box(row), *black_box(&encoding), black_box(kinds));
+        let ((s, n, t, m), k, l) = (lent(row), kinds.as_ptr(), kinds.len());
+        let (table_base, at, base) = (row.table_base, row.offset, row.base_address);
+        let (begins, ends) = (&mut made.begins, &mut made.ends);
+        made.n = counted(unsafe {
+            yz_range_coverage_by(s, n, t, m, table_base, encoding, at, base, k, l, begins, ends)
+        });
+        black_box(&*made).n
+    });
+    made.sum()
+}
+
 #[inline(always)]
 pub fn location_coverage_once(row: &Row, encoding: &Encoding, offset: u64, made: &mut Coverage) {
     let ((s, n, t, m), encoding, table_base) = (lent(row), *encoding, row.table_base);
@@ -374,6 +443,23 @@ pub fn range_runs_once(row: &Row, encoding: &Encoding, offset: u64, made: &mut R
     made.n = counted(unsafe {
         yz_range_runs(s, n, t, m, table_base, encoding, offset, base, begins, b, ends, e)
     });
+}
+
+#[inline(never)]
+pub fn runs_by(row: &Row, kinds: &[u8], made: &mut Runs, passes: u64) -> u64 {
+    let encoding = encoding(row);
+    repeat!(passes, {
+        let (row, encoding, kinds) = (black_box(row), *black_box(&encoding), black_box(kinds));
+        let ((s, n, t, m), k, l) = (lent(row), kinds.as_ptr(), kinds.len());
+        let (table_base, at, base) = (row.table_base, row.offset, row.base_address);
+        let (begins, b) = (made.begins.as_mut_ptr(), made.begins.len());
+        let (ends, e) = (made.ends.as_mut_ptr(), made.ends.len());
+        made.n = counted(unsafe {
+            yz_range_runs_by(s, n, t, m, table_base, encoding, at, base, k, l, begins, b, ends, e)
+        });
+        black_box(&*made).n
+    });
+    made.sum()
 }
 
 #[inline(always)]
@@ -406,6 +492,23 @@ pub fn range_canonical_once(row: &Row, encoding: &Encoding, offset: u64, output:
     counted(unsafe {
         yz_range_canonical(s, n, t, m, table_base, encoding, offset, base, o, length)
     })
+}
+
+#[inline(never)]
+pub fn canonical_by(row: &Row, kinds: &[u8], output: &mut [u8], passes: u64) -> u64 {
+    let encoding = encoding(row);
+    let written = repeat!(passes, {
+        let (row, encoding, kinds) = (black_box(row), *black_box(&encoding), black_box(kinds));
+        let ((s, n, t, m), k, l) = (lent(row), kinds.as_ptr(), kinds.len());
+        let (table_base, at, base) = (row.table_base, row.offset, row.base_address);
+        let (o, length) = (output.as_mut_ptr(), output.len());
+        let written = counted(unsafe {
+            yz_range_canonical_by(s, n, t, m, table_base, encoding, at, base, k, l, o, length)
+        });
+        black_box(&*output);
+        written
+    });
+    sum_of_bytes(&output[..written as usize])
 }
 
 #[inline(always)]
@@ -443,4 +546,14 @@ pub fn from_sheet(sheet: &[u8], made: &mut Coverage, passes: u64) -> u64 {
         black_box(&*made).n
     });
     made.sum()
+}
+
+/// Whether a table of kind numbers is loaded.
+#[inline(never)]
+pub fn load(table: &[u8], passes: u64) -> u64 {
+    repeat!(passes, {
+        let table = black_box(table);
+        let loaded = unsafe { yz_kinds_load(table.as_ptr(), table.len()) };
+        u64::from(loaded.result == DONE)
+    })
 }

@@ -76,6 +76,7 @@ fn row(shared: &str, files: &mut Files) -> Row {
         big_endian: elf.big_endian,
         yields: 0,
         entries: 0,
+        tabled: None,
     }
 }
 

@@ -30,6 +30,15 @@ pub enum Task {
     Raw,
     /// LEB128 numbers, one after the other; the section holds nothing else.
     Numbers,
+    /// Loading a table of kind numbers.
+    Load,
+}
+
+/// A table of kind numbers, and the row's section with its codes.
+#[derive(Clone, Copy)]
+pub struct Tabled {
+    pub kinds: &'static [u8],
+    pub section: &'static [u8],
 }
 
 /// A list, what its reading depends on, and the task. `yields` is how many
@@ -52,6 +61,8 @@ pub struct Row {
     pub big_endian: bool,
     pub yields: u64,
     pub entries: u64,
+    /// Where the port reads by a table; gimli reads the row's section.
+    pub tabled: Option<Tabled>,
 }
 
 /// What an entry is, whatever its code in range and in location lists.
@@ -255,12 +266,19 @@ struct Plan {
     size: u8,
     big: bool,
     pattern: Pattern,
+    by_table: bool,
 }
 
 impl Plan {
     fn new(kind: Kind, pattern: Pattern, size: u8, big: bool) -> Plan {
         let bare = matches!(pattern, Pattern::All(BarePair));
-        Plan { kind, version: if bare { 4 } else { 5 }, size, big, pattern }
+        let version = if bare { 4 } else { 5 };
+        Plan { kind, version, size, big, pattern, by_table: false }
+    }
+
+    /// The first word of a row's name.
+    fn by(self) -> &'static str {
+        if self.by_table { "kinds-" } else { "" }
     }
 
     fn bare(self) -> bool {
@@ -269,16 +287,20 @@ impl Plan {
 
     /// The list of the ranges with these indexes.
     fn row(self, name: String, indexes: impl Iterator<Item = u64>) -> Row {
-        let Plan { kind, version, size, big, pattern } = self;
+        let Plan { kind, version, size, big, pattern, by_table } = self;
         let mut writer = Writer { out: vec![0; LIST_OFFSET], kind, version, size, big };
-        let (mut yields, mut entries) = (0, 0);
+        let (mut yields, mut entries, mut starts) = (0, 0, Vec::new());
         for index in indexes {
             let form = pattern.form(index);
+            starts.push(writer.out.len());
             writer.entry(form, index);
             yields += u64::from(!form.is_base());
             entries += 1;
         }
+        starts.push(writer.out.len());
         writer.end(self.bare());
+        let codes_at = if self.bare() { &[][..] } else { &starts };
+        let tabled = by_table.then(|| tabled(writer.out.clone(), codes_at));
         Row {
             name,
             task: Task::Walk,
@@ -295,8 +317,28 @@ impl Plan {
             big_endian: big,
             yields,
             entries,
+            tabled,
         }
     }
+}
+
+/// The codes of the kinds of range list entries in a table, without an order.
+const CODES: [u8; 8] = [0x5d, 0x12, 0xc4, 0x31, 0xe9, 0x07, 0x9a, 0x44];
+
+const KINDS: [u8; 256] = {
+    let mut kinds = [0xff; 256];
+    let mut kind = 0;
+    while kind < CODES.len() {
+        kinds[CODES[kind] as usize] = kind as u8;
+        kind += 1;
+    }
+    kinds
+};
+
+/// A section with the table's codes at these places.
+fn tabled(mut section: Vec<u8>, codes_at: &[usize]) -> Tabled {
+    codes_at.iter().for_each(|&at| section[at] = CODES[usize::from(section[at])]);
+    Tabled { kinds: &KINDS, section: section.leak() }
 }
 
 fn kind_word(kind: Kind) -> &'static str {
@@ -352,9 +394,9 @@ pub const NOWHERE: u64 = u64::MAX;
 fn walk(rows: &mut Rows<'_>, word: &str, plan: Plan) {
     let (kind, size, order) = (kind_word(plan.kind), plan.size, order_word(plan.big));
     for count in [3, 1000] {
-        let name = format!("{kind}-{word}-{size}-{order}-{count}");
+        let name = format!("{}{kind}-{word}-{size}-{order}-{count}", plan.by());
         rows.add(name, |name| plan.row(name, 0..count));
-        let name = format!("inside-{kind}-{word}-{size}-{order}-{count}");
+        let name = format!("{}inside-{kind}-{word}-{size}-{order}-{count}", plan.by());
         rows.add(name, |name| Row { task: Task::Lookup(NOWHERE), ..plan.row(name, 0..count) });
     }
 }
@@ -414,19 +456,20 @@ fn shuffled(count: u64) -> Vec<u64> {
 
 /// Coverage, as arrays and as runs, and canonical list of ranges that neither
 /// overlap nor touch.
-fn sets(rows: &mut Rows<'_>) {
+fn sets(rows: &mut Rows<'_>, by_table: bool, counts: &[u64]) {
     let plan = Plan::new(Kind::Ranges, Pattern::All(StartLength), 8, false);
+    let plan = Plan { by_table, ..plan };
     let tasks =
         [("coverage", Task::Coverage), ("runs", Task::Runs), ("canonical", Task::Canonical)];
     for (word, task) in tasks {
-        for count in [1, 4, 32, 33, 1024, 3000] {
+        for &count in counts {
             let orders = [
                 ("ascending", (0..count).collect::<Vec<_>>()),
                 ("descending", (0..count).rev().collect()),
                 ("random", shuffled(count)),
             ];
             for (order, indexes) in orders {
-                let name = format!("{word}-{order}-{count}");
+                let name = format!("{}{word}-{order}-{count}", plan.by());
                 rows.add(name, |name| Row { task, ..plan.row(name, indexes.into_iter()) });
             }
         }
@@ -530,12 +573,37 @@ fn raws(rows: &mut Rows<'_>) {
             if kind == Kind::SplitLocations {
                 plan.version = 4;
             }
-            for count in [3, 1000] {
-                let name = format!("raw-{word}-{size}-little-{count}");
-                rows.add(name, |name| Row { task: Task::Raw, ..plan.row(name, 0..count) });
-            }
+            raw(rows, word, plan);
         }
     }
+}
+
+fn raw(rows: &mut Rows<'_>, word: &str, plan: Plan) {
+    for count in [3, 1000] {
+        let name = format!("{}raw-{word}-{}-little-{count}", plan.by(), plan.size);
+        rows.add(name, |name| Row { task: Task::Raw, ..plan.row(name, 0..count) });
+    }
+}
+
+/// By a table of kind numbers, beside rows without one that are named the same but for
+/// the first word.
+fn kinds(rows: &mut Rows<'_>) {
+    let plan = |pattern| Plan { by_table: true, ..Plan::new(Kind::Ranges, pattern, 8, false) };
+    for (word, pattern) in patterns(Kind::Ranges) {
+        walk(rows, &word, plan(pattern));
+    }
+    for (word, form) in
+        [("range-4", OffsetPair), ("range-7", StartLength), ("range-bare", BarePair)]
+    {
+        raw(rows, word, plan(Pattern::All(form)));
+    }
+    sets(rows, true, &[32, 1024]);
+    rows.add("kinds-load".into(), |name| Row {
+        task: Task::Load,
+        yields: 1,
+        entries: 1,
+        ..plan(Pattern::Mixed).row(name, 0..0)
+    });
 }
 
 /// LEB128 numbers of so many bytes each, in shortest form.
@@ -558,12 +626,13 @@ pub fn rows(wanted: &dyn Fn(&str) -> bool) -> Vec<Row> {
     let mut rows = Rows { wanted, rows: Vec::new() };
     walks(&mut rows);
     lookups(&mut rows);
-    sets(&mut rows);
+    sets(&mut rows, false, &[1, 4, 32, 33, 1024, 3000]);
     sheets(&mut rows);
     headers(&mut rows);
     growth(&mut rows);
     marks(&mut rows);
     raws(&mut rows);
     numbers(&mut rows);
+    kinds(&mut rows);
     rows.rows
 }

@@ -279,3 +279,22 @@ pub fn from_sheet(sheet: &[u8], made: &mut Coverage, passes: u64) -> u64 {
     });
     made.sum()
 }
+
+/// Whether a table of kind numbers may be loaded.
+#[inline(always)]
+fn load_once(table: &[u8]) -> bool {
+    let mut seen = 0u8;
+    for &number in table {
+        match number {
+            0..8 if seen >> number & 1 == 0 => seen |= 1 << number,
+            255 => {}
+            _ => return false,
+        }
+    }
+    table.len() == 256 && seen & 1 == 1
+}
+
+#[inline(never)]
+pub fn load(table: &[u8], passes: u64) -> u64 {
+    repeat!(passes, u64::from(load_once(black_box(table))))
+}

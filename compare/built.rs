@@ -205,7 +205,7 @@ impl Writer<'_> {
 
 /// A list of many ranges, with entries that yield nothing between them, and
 /// now and then one that is refused at or near its end.
-fn list_case(r: &mut Random, sizes: &[u8]) -> ListCase {
+pub fn list_case(r: &mut Random, sizes: &[u8]) -> ListCase {
     let address_size = r.pick(sizes);
     let mut list = ListCase {
         kind: r.pick(&generator::KINDS),

@@ -83,6 +83,7 @@ fn main() {
     counts(&mut check);
     marks(&mut check);
     padded(&mut check);
+    renumbered(&mut check);
     open_points(&mut check);
     differences(&mut check);
     println!("{} examples, {} differ", check.run, check.wrong);
@@ -582,6 +583,39 @@ fn padded(c: &mut Check) {
     split("03 80 00 08 00 00 00 01 00 50 00", located(StartLengthIndex, 0, 8, 9), 10);
     split("04 81 00 82 00 01 00 50 00", located(OffsetPair, 1, 2, 7), 8);
     split("08 10 00 00 00 81 00 01 00 50 00", located(StartLength, 0x10, 1, 9), 10);
+}
+
+/// gimli has no tables of kind numbers: it walks the lists renumbered, with 255 for
+/// a code without a kind.
+fn renumbered(c: &mut Check) {
+    // Each answer with the place then.
+    let mut same = |version, address_size, base_address, text: &str, stated: &[_]| {
+        let b = bytes(text);
+        let l = List { version, address_size, base_address, ..list(Kind::Ranges, &b) };
+        let mut w = Walk::open(&l).unwrap();
+        let got: Vec<_> = stated.iter().map(|_| (w.next(), w.state().place)).collect();
+        c.same(text, got.as_slice(), stated);
+    };
+    let end = Answer::End;
+    let none = refused(3, 0xff);
+    for version in [5, 6] {
+        let pair = [(range(0x1001, 0x1005), 3), (end, 4)];
+        same(version, 4, 0x1000, "04 01 05 00", &pair);
+        same(version, 4, 0x1000, "04 04 05 00", &[(range(0x1004, 0x1005), 3), (end, 4)]);
+        same(version, 4, 0, "07 10 00 00 00 08 00", &[(range(0x10, 0x18), 6), (end, 7)]);
+        same(version, 4, 0, "00 14", &[(end, 2), (end, 2)]);
+        same(version, 4, 0, "00 05", &[(end, 2), (end, 2)]);
+        same(version, 4, 0, "ff", &[(none, 1), (end, 1)]);
+        same(version, 4, 0, "ff 00", &[(none, 2), (end, 2)]);
+        same(version, 4, 0, "ff 00 00", &[(none, 3), (end, 3)]);
+        same(version, 4, 0, "ff 01 05 00", &[(none, 4), (end, 4)]);
+        same(version, 4, 0, "04 01 05 ff", &[(range(1, 5), 3), (none, 4), (end, 4)]);
+        same(version, 4, 0, "ff 10 00 00 00 08 00", &[(none, 7), (end, 7)]);
+    }
+    for version in [2, 3, 4] {
+        let stated = [(range(1, 2), 4), (end, 8)];
+        same(version, 2, 0, "01 00 02 00 00 00 00 00", &stated);
+    }
 }
 
 fn open_points(c: &mut Check) {

@@ -46,17 +46,7 @@ pub trait Port: Sync {
     fn convert_raw(&self, list: &List, walk: State, entry: Raw) -> (Converted, State);
 
     fn lookup(&self, list: &List, address: u64) -> Found {
-        let mut state = match self.open(list) {
-            Ok(state) => state,
-            Err(refusal) => return Answer::Refused(refusal),
-        };
-        loop {
-            let (answer, after) = self.next(list, state);
-            match answer {
-                Answer::Entry(entry) if !holds(&entry, address) => state = after,
-                answer => return answer,
-            }
-        }
+        first_that_holds(address, self.open(list), |walk| self.next(list, walk))
     }
 
     fn get_address(
@@ -113,6 +103,25 @@ fn holds(entry: &Yielded, address: u64) -> bool {
     entry.begin <= address && address < entry.end
 }
 
+/// A lookup by the calls of a walk.
+pub fn first_that_holds(
+    address: u64,
+    opened: Result<State, Refusal>,
+    next: impl Fn(State) -> (Answer<Yielded>, State),
+) -> Found {
+    let mut state = match opened {
+        Ok(state) => state,
+        Err(refusal) => return Answer::Refused(refusal),
+    };
+    loop {
+        let (answer, after) = next(state);
+        match answer {
+            Answer::Entry(entry) if !holds(&entry, address) => state = after,
+            answer => return answer,
+        }
+    }
+}
+
 /// How often each thing was met, by name, how many calls were compared, how
 /// many at size 3 with the model, and how many were left out.
 #[derive(Default)]
@@ -152,7 +161,7 @@ impl Met {
     }
 
     /// Counts apart what `compare` compares, where the model is the measure.
-    fn measured(
+    pub fn measured(
         &mut self,
         by_model: bool,
         compare: impl FnOnce(&mut Met) -> Result<(), String>,
@@ -251,15 +260,9 @@ pub fn compare(port: &impl Added, case: &Case, seed: u64, met: &mut Met) -> Resu
     match case {
         Case::List(case) => {
             let list = list_of(case);
-            if Random::new(seed ^ OTHER_SIZE).one_in(1, 64) {
-                other_size(port, &list, seed, met)?;
-            }
-            met.measured_at(list.address_size, |met| {
-                walk(port, &list, seed, met)?;
-                by_hand(port, &list, seed, met)?;
-                lookups(port, &list, seed, met)?;
-                added::list(port, &list, &mut Random::new(seed.rotate_left(16)), false, met)
-            })
+            let walk = walk_by_hand(&mut Random::new(!(seed ^ COUNT)), &list);
+            by_hand(port, &list, walk, met)?;
+            from_its_offset(port, &list, seed, met)
         }
         Case::Convert(case) => {
             met.measured_at(case.list.address_size, |met| convert(port, case, seed, met))
@@ -324,6 +327,23 @@ pub fn compare(port: &impl Added, case: &Case, seed: u64, met: &mut Met) -> Resu
             met.same("min_tombstone", &gimli::min_tombstone(size), &port.min_tombstone(size))
         }
     }
+}
+
+/// All calls that start at a list's offset.
+pub fn from_its_offset(
+    port: &impl Added,
+    list: &List,
+    seed: u64,
+    met: &mut Met,
+) -> Result<(), String> {
+    if Random::new(seed ^ OTHER_SIZE).one_in(1, 64) {
+        other_size(port, list, seed, met)?;
+    }
+    met.measured_at(list.address_size, |met| {
+        walk(port, list, seed, met)?;
+        lookups(port, list, seed, met)?;
+        added::list(port, list, &mut Random::new(seed.rotate_left(16)), false, met)
+    })
 }
 
 /// The number at a place.
@@ -433,20 +453,21 @@ pub fn walk_by_hand(r: &mut Random, list: &List) -> State {
 }
 
 /// One call on a walk made by hand. Past the section's end there is no entry.
-fn by_hand(port: &impl Port, list: &List, seed: u64, met: &mut Met) -> Result<(), String> {
-    let walk = walk_by_hand(&mut Random::new(!(seed ^ COUNT)), list);
-    let next = port.next(list, walk);
-    let next_raw = port.next_raw(list, walk);
-    if walk.place > list.section().len() as u64 {
-        met.met("walk by hand, past the end".into());
-        met.same("next past the end", &(Answer::End, walk), &next)?;
-        return met.same("next_raw past the end", &(Answer::End, walk), &next_raw);
-    }
-    met.met("walk by hand".into());
-    let mut oracle = Walk::by_hand(list, walk);
-    met.same("next by hand", &(oracle.next(), oracle.state()), &next)?;
-    let mut oracle = Walk::by_hand(list, walk);
-    met.same("next_raw by hand", &(oracle.next_raw(), oracle.state()), &next_raw)
+pub fn by_hand(port: &impl Port, list: &List, walk: State, met: &mut Met) -> Result<(), String> {
+    met.measured_at(list.address_size, |met| {
+        let next = port.next(list, walk);
+        let next_raw = port.next_raw(list, walk);
+        if walk.place > list.section().len() as u64 {
+            met.met("walk by hand, past the end".into());
+            met.same("next past the end", &(Answer::End, walk), &next)?;
+            return met.same("next_raw past the end", &(Answer::End, walk), &next_raw);
+        }
+        met.met("walk by hand".into());
+        let mut oracle = Walk::by_hand(list, walk);
+        met.same("next by hand", &(oracle.next(), oracle.state()), &next)?;
+        let mut oracle = Walk::by_hand(list, walk);
+        met.same("next_raw by hand", &(oracle.next_raw(), oracle.state()), &next_raw)
+    })
 }
 
 /// A seed's other numbers: whether its list is tried with another size too, and

@@ -4,10 +4,14 @@
 //! marks, then a case built for coverage, sheets and canonical lists for every
 //! twentieth of them. Then comes padding: every short string as a number and as
 //! the operands of an entry, a number for each seed, and a list for every fourth
-//! of them. Last comes address size 3: every short list, and for every fourth of
+//! of them. Then comes address size 3: every short list, and for every fourth of
 //! the seeds a case, a list that gimli reads up to an address, and one that it
-//! reads with size 4. A difference is printed, the last line has their number, and
-//! the exit status is 1 where there are any.
+//! reads with size 4. Last come tables of kind numbers: loaded ones, among them
+//! every change of a byte of the fixed table; every short list by some; for each
+//! seed its cases about range lists by the fixed table, and a list by any; bare
+//! pairs by any table for every fourth, and a list of many ranges for every
+//! twentieth. A difference is printed, the last line has their number, and the
+//! exit status is 1 where there are any.
 //!
 //!   differ [seeds [first seed]] [all] [model]
 //!
@@ -17,6 +21,7 @@
 mod added;
 mod built;
 mod differ;
+mod kinds;
 mod marks;
 mod measure;
 mod model;
@@ -24,7 +29,7 @@ mod padded;
 mod port;
 mod three;
 
-use added::Added;
+use added::{Added, Tabled};
 use differ::Met;
 use generator::{READ, Random};
 use oracle::oracle_api::{self as gimli, Kind};
@@ -106,7 +111,10 @@ fn default_bases(port: &impl Added) -> u64 {
     bases
 }
 
-fn run(port: &impl Added, seeds: u64, first: u64, all: bool) {
+/// What is compared for a seed.
+type Seeded<P> = fn(&P, u64, &mut Met) -> Result<(), String>;
+
+fn run<P: Tabled>(port: &P, seeds: u64, first: u64, all: bool) {
     let short = u64::from(if all { generator::SHORT_LISTS } else { 1 + 0x100 + 0x10000 });
     let mut total = part(short, "short lists", |index, met| {
         let (bytes, length) = generator::short_list(index as u32);
@@ -182,6 +190,29 @@ fn run(port: &impl Added, seeds: u64, first: u64, all: bool) {
         three::widened(port, &cases, seed, met)
             .map_err(|error| format!("widened, seed {seed}: {error}\n{cases:x?}"))
     }));
+    total.join(part(kinds::CHANGES, "changes of the fixed table", |index, met| {
+        kinds::change(port, index, met)
+    }));
+    total.join(part(fourth, &format!("tables loaded from seed {first}"), |index, met| {
+        let seed = first.wrapping_add(index);
+        kinds::tables(port, seed, met).map_err(|error| format!("tables, seed {seed}: {error}"))
+    }));
+    total.join(part(short, "short lists by tables", |index, met| {
+        let (bytes, length) = generator::short_list(index as u32);
+        kinds::short(port, &bytes[..length], met)
+    }));
+    let parts: [(&str, Seeded<P>, u64); 4] = [
+        ("range lists by the fixed table", kinds::fixed, seeds),
+        ("bare pairs by any table", kinds::bare, fourth),
+        ("lists by any table", kinds::list, seeds),
+        ("lists of many ranges by a table", kinds::many, seeds.div_ceil(20)),
+    ];
+    for (name, one, count) in parts {
+        total.join(part(count, &format!("{name}, from seed {first}"), |index, met| {
+            let seed = first.wrapping_add(index);
+            one(port, seed, met).map_err(|error| format!("{name}, seed {seed}: {error}"))
+        }));
+    }
     let (calls, model) = (total.calls + total.with_model, total.with_model);
     println!("{calls} calls compared in all, {model} of them with the model, 0 differences");
 }

@@ -702,6 +702,103 @@ pub fn padded_list(seed: u64) -> ListCase {
     list
 }
 
+/// The fixed table of kind numbers: every kind is its own code.
+pub const FIXED: [u8; 256] = {
+    let mut table = [0xff; 256];
+    let mut kind = 0;
+    while kind < 8 {
+        table[kind] = kind as u8;
+        kind += 1;
+    }
+    table
+};
+
+/// A table of kind numbers that may be loaded: each kind, or some with kind 0 among
+/// them, at a code of its own, low or any.
+pub fn lawful_table(r: &mut Random) -> Vec<u8> {
+    let mut table = vec![0xff; 256];
+    let (below, all) = (r.pick(&[8, 16, 256, 256]), r.one_in(1, 2));
+    for kind in 0..8 {
+        if kind > 0 && !all && r.one_in(1, 3) {
+            continue;
+        }
+        let code = |r: &mut Random| match r.below(16) {
+            0 => r.pick(&[0x7f, 0x80, 0xfe, 0xff]),
+            _ => r.below(below) as usize,
+        };
+        let mut at = code(r);
+        while table[at] != 0xff {
+            at = code(r);
+        }
+        table[at] = kind;
+    }
+    table
+}
+
+/// Any table: one that may be loaded, or one that may not, by its length, by numbers
+/// that aren't kinds, by kinds at many codes, or by all of it. What it is cut from
+/// lies behind a short one. Some are bytes of the list that they are for.
+pub fn any_table(r: &mut Random, section: &[u8]) -> Vec<u8> {
+    let mut table = match r.below(12) {
+        0 => FIXED.to_vec(),
+        1..=5 => lawful_table(r),
+        6 | 7 => (0..256).map(|_| r.below(8) as u8).collect(),
+        8 => (0..256).map(|_| r.pick(&[0, 1, 4, 5, 6, 7, 8, 9, 0x7f, 0x80, 0xfe, 0xff])).collect(),
+        9 => vec![r.pick(&[0, 1, 2, 3, 4, 5, 6, 7, 8, 0xfe, 0xff]); 256],
+        10 => section.to_vec(),
+        _ => r.bytes(256),
+    };
+    match r.below(16) {
+        0 | 1 => table.truncate(r.below(20) as usize),
+        2 => table.truncate(r.below(257) as usize),
+        3 => {
+            let more = r.pick(&[1, 1, 7, 256]);
+            table.extend(r.bytes(more));
+        }
+        4 | 5 => damage_numbers(r, &mut table),
+        _ => {}
+    }
+    table
+}
+
+/// Puts other numbers at a few codes, or lets two codes change places.
+fn damage_numbers(r: &mut Random, table: &mut [u8]) {
+    if table.is_empty() {
+        return;
+    }
+    for _ in 0..1 + r.below(3) {
+        let mut at = || r.below(table.len() as u64) as usize;
+        let (one, other) = (at(), at());
+        match r.below(4) {
+            0 => table.swap(one, other),
+            1 => table[one] = r.below(8) as u8,
+            2 => table[one] = 8 + r.below(0xf7) as u8,
+            _ => table[one] = 0xff,
+        }
+    }
+}
+
+/// A range list, of bare pairs or of entries with kinds.
+pub fn range_list(r: &mut Random, sizes: &[u8], bare: bool) -> ListCase {
+    loop {
+        let list = list_case(r, sizes);
+        if list.kind == Kind::Ranges && (list.version <= 4) == bare {
+            return list;
+        }
+    }
+}
+
+/// Bytes of which half are taken from some.
+pub fn bytes_of(r: &mut Random, some: &[u8]) -> Vec<u8> {
+    let length = r.below(40);
+    let byte = |r: &mut Random| match r.below(4) {
+        0 => r.next() as u8,
+        1 => r.below(10) as u8,
+        _ => r.pick(some),
+    };
+    (0..length).map(|_| byte(r)).collect()
+}
+
 /// The length of the section that is chosen.
 fn length(list: &ListCase) -> u64 {
     if list.version <= 4 { list.old.len() as u64 } else { list.new.len() as u64 }

@@ -2,8 +2,8 @@
 //! comparison with, and to see whether gimli's answers and the page agree.
 //! Slow and short; it shares nothing with gimli's code.
 
-use crate::added::{self, Added, Kept, MOST, Marks, Ranges, Words, Wrote};
-use crate::differ::{Noted, Number, Port};
+use crate::added::{self, Added, Kept, MOST, Marks, Ranges, Tabled, Words, Wrote};
+use crate::differ::{Found, Noted, Number, Port, first_that_holds};
 use oracle::oracle_api::{
     Answer, Converted, Form, Kind, List, Lists, Place, Raw, Refusal, State, Table, Yielded,
 };
@@ -173,10 +173,27 @@ fn expression(bytes: &mut Bytes, length: u64) -> Got<Option<Place>> {
 /// padded.
 type Padded = u8;
 
+/// A table of kind numbers, where there is one.
+type Numbers<'a> = Option<&'a [u8]>;
+
+/// What stands in a table for a code that has no kind.
+pub const NO_KIND: u8 = 255;
+
+/// The number of a code's kind. In a table 8 to 254 count as 255, and so does a
+/// code past its end.
+pub fn kind_number(kinds: &[u8], code: u8) -> u8 {
+    kinds.get(usize::from(code)).copied().filter(|&number| number < 8).unwrap_or(NO_KIND)
+}
+
+/// Whether kinds stand in a list, as numbers of a byte.
+pub fn is_coded(list: &List) -> bool {
+    list.version > 4 || list.kind == Kind::SplitLocations
+}
+
 /// A raw entry, or none for the end mark.
-fn raw(list: &List, bytes: &mut Bytes) -> Got<Option<(Raw, Padded)>> {
+fn raw(list: &List, kinds: Numbers, bytes: &mut Bytes) -> Got<Option<(Raw, Padded)>> {
     let (size, old, located) = (list.address_size, list.version <= 4, list.kind != Kind::Ranges);
-    if old && list.kind != Kind::SplitLocations {
+    if !is_coded(list) {
         let (first, second) = (bytes.address(size)?, bytes.address(size)?);
         if (first, second) == (0, 0) {
             return Ok(None);
@@ -194,11 +211,12 @@ fn raw(list: &List, bytes: &mut Bytes) -> Got<Option<(Raw, Padded)>> {
         return Ok(Some((Raw { form: Form::BarePair, first, second, expression }, 0)));
     }
     let code = bytes.fixed(1)?;
-    if code == 0 {
+    let number = kinds.map_or(code, |kinds| kind_number(kinds, code as u8).into());
+    if number == 0 {
         return Ok(None);
     }
     // Range kinds have no default: from 5 on they are one lower.
-    let known = kind(if located || code < 5 { code } else { code + 1 });
+    let known = kind(if located || number < 5 { number } else { number + 1 });
     let Some((form, operands, described)) = known else {
         return no(if located { 4 } else { 3 }, code);
     };
@@ -230,7 +248,7 @@ fn raw(list: &List, bytes: &mut Bytes) -> Got<Option<(Raw, Padded)>> {
 /// The raw entry at a place of a list, and which of its numbers are padded.
 pub fn entry(list: &List, place: u64) -> Option<(Raw, Padded)> {
     let mut bytes = Bytes::at(chosen(list), place, list.big_endian).ok()?;
-    raw(list, &mut bytes).ok()?
+    raw(list, None, &mut bytes).ok()?
 }
 
 /// A range, or none for a base or a skipped range.
@@ -283,16 +301,11 @@ fn whole(bytes: &[u8], big: bool) -> Bytes<'_> {
     Bytes { all: bytes, at: 0, big }
 }
 
-impl Port for Model {
-    fn open(&self, list: &List) -> Result<State, Refusal> {
-        walkable(list)?;
-        Bytes::at(chosen(list), list.offset, list.big_endian)?;
-        Ok(State { place: list.offset, base_address: list.base_address, entries: 0 })
-    }
-
-    fn next(&self, list: &List, mut walk: State) -> (Answer<Yielded>, State) {
+/// The walk, with a table or without one.
+impl Model {
+    fn next_in(&self, list: &List, kinds: Numbers, mut walk: State) -> (Answer<Yielded>, State) {
         loop {
-            let (answer, after) = self.next_raw(list, walk);
+            let (answer, after) = self.next_raw_in(list, kinds, walk);
             walk = after;
             let entry = match answer {
                 Answer::Entry(noted) => noted.entry,
@@ -307,7 +320,7 @@ impl Port for Model {
         }
     }
 
-    fn next_raw(&self, list: &List, walk: State) -> (Answer<Noted>, State) {
+    fn next_raw_in(&self, list: &List, kinds: Numbers, walk: State) -> (Answer<Noted>, State) {
         let section = chosen(list);
         let length = section.len() as u64;
         let emptied = State { place: length, ..walk };
@@ -319,7 +332,7 @@ impl Port for Model {
         }
         let mut bytes = Bytes { all: section, at: walk.place as usize, big: list.big_endian };
         let entries = walk.entries.saturating_add(1);
-        match raw(list, &mut bytes) {
+        match raw(list, kinds, &mut bytes) {
             Ok(Some((entry, padded))) => {
                 let noted = Noted { entry, padded: padded != 0 };
                 (Answer::Entry(noted), State { place: bytes.at as u64, entries, ..walk })
@@ -327,6 +340,22 @@ impl Port for Model {
             Ok(None) => (Answer::End, State { entries, ..emptied }),
             Err(refusal) => (Answer::Refused(refusal), emptied),
         }
+    }
+}
+
+impl Port for Model {
+    fn open(&self, list: &List) -> Result<State, Refusal> {
+        walkable(list)?;
+        Bytes::at(chosen(list), list.offset, list.big_endian)?;
+        Ok(State { place: list.offset, base_address: list.base_address, entries: 0 })
+    }
+
+    fn next(&self, list: &List, walk: State) -> (Answer<Yielded>, State) {
+        self.next_in(list, None, walk)
+    }
+
+    fn next_raw(&self, list: &List, walk: State) -> (Answer<Noted>, State) {
+        self.next_raw_in(list, None, walk)
     }
 
     fn convert_raw(&self, list: &List, mut walk: State, entry: Raw) -> (Converted, State) {
@@ -477,10 +506,10 @@ fn put(runs: &mut Ranges, (mut begin, mut end): (u64, u64)) {
 }
 
 /// The runs of a list's walk.
-fn runs(list: &List) -> Got<Ranges> {
+fn runs(list: &List, kinds: Numbers) -> Got<Ranges> {
     let (mut walk, mut runs) = (Model.open(list)?, Ranges::new());
     for yielded in 0.. {
-        let (answer, after) = Model.next(list, walk);
+        let (answer, after) = Model.next_in(list, kinds, walk);
         walk = after;
         match answer {
             Answer::Entry(_) if yielded == MOST => return no(10, 0),
@@ -502,6 +531,15 @@ fn put_front(numbers: impl Iterator<Item = u64>, places: &mut [u64]) {
     places.iter_mut().zip(numbers).for_each(|(place, number)| *place = number);
 }
 
+fn put_runs(runs: Ranges, begins: &mut [u64], ends: &mut [u64]) -> Wrote {
+    if begins.len().min(ends.len()) < runs.len() {
+        return no(11, 0);
+    }
+    put_front(runs.iter().map(|run| run.0), begins);
+    put_front(runs.iter().map(|run| run.1), ends);
+    Ok(runs.len() as u64)
+}
+
 fn put_out(bytes: &[u8], output: &mut [u8]) -> Wrote {
     let Some(part) = output.get_mut(..bytes.len()) else { return no(11, 0) };
     part.copy_from_slice(bytes);
@@ -514,21 +552,15 @@ fn mark(number: u64, marks: &mut Marks) -> Got<&mut [u64; 5]> {
 
 impl Added for Model {
     fn coverage(&self, list: &List, kept: &mut Kept) -> Wrote {
-        keep(runs(list)?, kept)
+        keep(runs(list, None)?, kept)
     }
 
     fn runs(&self, list: &List, begins: &mut [u64], ends: &mut [u64]) -> Wrote {
-        let runs = runs(list)?;
-        if begins.len().min(ends.len()) < runs.len() {
-            return no(11, 0);
-        }
-        put_front(runs.iter().map(|run| run.0), begins);
-        put_front(runs.iter().map(|run| run.1), ends);
-        Ok(runs.len() as u64)
+        put_runs(runs(list, None)?, begins, ends)
     }
 
     fn coverage_from_canonical(&self, bytes: &[u8], kept: &mut Kept) -> Wrote {
-        keep(runs(&added::canonical_list(bytes))?, kept)
+        keep(runs(&added::canonical_list(bytes), None)?, kept)
     }
 
     fn coverage_from_sheet(&self, sheet: &[u8], kept: &mut Kept) -> Wrote {
@@ -544,7 +576,7 @@ impl Added for Model {
     }
 
     fn canonical_of(&self, list: &List, output: &mut [u8]) -> Wrote {
-        put_out(&added::canonical(&runs(list)?), output)
+        put_out(&added::canonical(&runs(list, None)?), output)
     }
 
     fn set_mark(&self, number: u64, walk: &mut Words, marks: &mut Marks) -> Got<()> {
@@ -561,5 +593,40 @@ impl Added for Model {
                 Ok(())
             }
         }
+    }
+}
+
+impl Tabled for Model {
+    /// 19 unless there are 256 bytes, each the number of a kind or 255, no kind twice,
+    /// and kind 0 among them.
+    fn load_kinds(&self, table: &[u8]) -> Got<()> {
+        let codes = |kind| table.iter().filter(|&&number| number == kind).count();
+        let numbers = table.iter().all(|&number| number < 8 || number == NO_KIND);
+        let once = (0..8).all(|kind| codes(kind) <= 1) && codes(0) == 1;
+        if table.len() == 256 && numbers && once { Ok(()) } else { no(19, 0) }
+    }
+
+    fn next_by(&self, list: &List, kinds: &[u8], walk: State) -> (Answer<Yielded>, State) {
+        self.next_in(list, Some(kinds), walk)
+    }
+
+    fn next_raw_by(&self, list: &List, kinds: &[u8], walk: State) -> (Answer<Noted>, State) {
+        self.next_raw_in(list, Some(kinds), walk)
+    }
+
+    fn lookup_by(&self, list: &List, kinds: &[u8], address: u64) -> Found {
+        first_that_holds(address, self.open(list), |walk| self.next_by(list, kinds, walk))
+    }
+
+    fn coverage_by(&self, list: &List, kinds: &[u8], kept: &mut Kept) -> Wrote {
+        keep(runs(list, Some(kinds))?, kept)
+    }
+
+    fn runs_by(&self, list: &List, kinds: &[u8], begins: &mut [u64], ends: &mut [u64]) -> Wrote {
+        put_runs(runs(list, Some(kinds))?, begins, ends)
+    }
+
+    fn canonical_by(&self, list: &List, kinds: &[u8], output: &mut [u8]) -> Wrote {
+        put_out(&added::canonical(&runs(list, Some(kinds))?), output)
     }
 }

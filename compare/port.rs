@@ -6,7 +6,7 @@
 #[rustfmt::skip]
 mod ffi;
 
-use crate::added::{Added, Kept, Marks, Words, Wrote};
+use crate::added::{Added, Kept, Marks, Tabled, Words, Wrote};
 use crate::differ::{Found, Noted, Number, Port};
 pub use ffi::LIMIT;
 use ffi::*;
@@ -170,6 +170,10 @@ fn flag(word: u64) -> bool {
     word == 1
 }
 
+fn noted_range(RawRange { entry, padded }: RawRange) -> Noted {
+    Noted { entry: raw_range(entry), padded: flag(padded) }
+}
+
 impl Port for Ffi {
     fn open(&self, list: &List) -> Result<State, Refusal> {
         let (s, n, ..) = lent(list);
@@ -208,12 +212,14 @@ impl Port for Ffi {
         let encoding = encoding(list);
         let next = if list.kind == Kind::Ranges {
             let next = unsafe { yz_range_next_raw(s, n, encoding, &mut walk) };
-            answer(next, END, |RawRange { entry, padded }| (raw_range(entry), padded))
+            answer(next, END, noted_range)
         } else {
             let next = unsafe { yz_location_next_raw(s, n, encoding, &mut walk) };
-            answer(next, END, |RawLocation { entry, padded }| (raw_location(entry), padded))
+            answer(next, END, |RawLocation { entry, padded }| Noted {
+                entry: raw_location(entry),
+                padded: flag(padded),
+            })
         };
-        let next = next.map(|(entry, padded)| Noted { entry, padded: flag(padded) });
         (next, state(list, walk))
     }
 
@@ -503,5 +509,61 @@ impl Added for Ffi {
 
     fn return_to(&self, number: u64, walk: &mut Words, marks: &mut Marks) -> Result<(), Refusal> {
         marking(walk, marks, |walk, marks| yz_mark_return(number, marks, walk))
+    }
+}
+
+/// Range lists alone have tables.
+impl Tabled for Ffi {
+    fn load_kinds(&self, table: &[u8]) -> Result<(), Refusal> {
+        result(unsafe { yz_kinds_load(table.as_ptr(), table.len()) }, |_| ())
+    }
+
+    fn next_by(&self, list: &List, kinds: &[u8], from: State) -> (Answer<Yielded>, State) {
+        let ((s, n, t, m), mut walk) = (lent(list), walk(list, from));
+        let (base, encoding, k, l) = (list.table_base, encoding(list), kinds.as_ptr(), kinds.len());
+        let next = unsafe { yz_range_next_by(s, n, t, m, base, encoding, k, l, &mut walk) };
+        (answer(next, END, range), state(list, walk))
+    }
+
+    fn next_raw_by(&self, list: &List, kinds: &[u8], from: State) -> (Answer<Noted>, State) {
+        let ((s, n, ..), mut walk) = (lent(list), walk(list, from));
+        let (encoding, k, l) = (encoding(list), kinds.as_ptr(), kinds.len());
+        let next = unsafe { yz_range_next_raw_by(s, n, encoding, k, l, &mut walk) };
+        (answer(next, END, noted_range), state(list, walk))
+    }
+
+    fn lookup_by(&self, list: &List, kinds: &[u8], address: u64) -> Found {
+        let (s, n, t, m) = lent(list);
+        let (base, encoding, k, l) = (list.table_base, encoding(list), kinds.as_ptr(), kinds.len());
+        let (at, low) = (list.offset, list.base_address);
+        let found =
+            unsafe { yz_range_lookup_by(s, n, t, m, base, encoding, at, low, k, l, address) };
+        answer(found, NOT_THERE, range)
+    }
+
+    fn coverage_by(&self, list: &List, kinds: &[u8], kept: &mut Kept) -> Wrote {
+        let (s, n, t, m) = lent(list);
+        let (base, encoding, k, l) = (list.table_base, encoding(list), kinds.as_ptr(), kinds.len());
+        let (at, low) = (list.offset, list.base_address);
+        let Kept { begins, ends } = kept;
+        wrote(unsafe {
+            yz_range_coverage_by(s, n, t, m, base, encoding, at, low, k, l, begins, ends)
+        })
+    }
+
+    fn runs_by(&self, list: &List, kinds: &[u8], begins: &mut [u64], ends: &mut [u64]) -> Wrote {
+        let (s, n, t, m) = lent(list);
+        let (base, encoding, k, l) = (list.table_base, encoding(list), kinds.as_ptr(), kinds.len());
+        let (at, low) = (list.offset, list.base_address);
+        let (b, e, bs, es) = (begins.len(), ends.len(), begins.as_mut_ptr(), ends.as_mut_ptr());
+        wrote(unsafe { yz_range_runs_by(s, n, t, m, base, encoding, at, low, k, l, bs, b, es, e) })
+    }
+
+    fn canonical_by(&self, list: &List, kinds: &[u8], output: &mut [u8]) -> Wrote {
+        let (s, n, t, m) = lent(list);
+        let (base, encoding, k, l) = (list.table_base, encoding(list), kinds.as_ptr(), kinds.len());
+        let (at, low) = (list.offset, list.base_address);
+        let (o, len) = (output.as_mut_ptr(), output.len());
+        wrote(unsafe { yz_range_canonical_by(s, n, t, m, base, encoding, at, low, k, l, o, len) })
     }
 }

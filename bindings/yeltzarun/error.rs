@@ -6,14 +6,14 @@ use core::fmt;
 /// What a call gives: its answer or a refusal.
 pub type Result<T> = core::result::Result<T, Error>;
 
-/// A refusal. No call gives those of the numbers 14 to 21 yet.
+/// A refusal. No call gives those of the numbers 14 to 18, 20 and 21 yet.
 #[derive(Debug, Clone, Copy, PartialEq, Eq, Hash)]
 pub enum Error {
     /// Bytes are missing.
     UnexpectedEof,
     /// The tenth byte of a LEB128 number is above 01.
     BadUnsignedLeb128,
-    /// A range list entry's kind is above 7.
+    /// A range list entry's kind is above 7; by a [`KindTable`](super::KindTable), its code has no kind.
     UnknownRangeListsEntry(u64),
     /// A location list entry's kind is above 8.
     UnknownLocListsEntry(u64),
@@ -45,7 +45,7 @@ pub enum Error {
     BackwardRange,
     /// A range is too large for the address size of an older list.
     AddressTooLarge,
-    /// The bytes are no table of kind numbers.
+    /// The bytes are no [`KindTable`](super::KindTable).
     BadKindTable,
     /// There are more than 64 addresses.
     TooManyAddresses,

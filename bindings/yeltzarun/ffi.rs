@@ -4,6 +4,10 @@
 /// How many ranges a coverage holds at most.
 pub const LIMIT: usize = 3000;
 
+/// How many bytes a table of kind numbers has, and the byte of a code that has no kind.
+pub const KIND_CODES: usize = 256;
+pub const NO_KIND: u8 = 255;
+
 /// How many marks a walk has; they are numbered from 0 on.
 pub const MARKS: usize = 8;
 
@@ -249,4 +253,30 @@ unsafe extern "C" {
     ) -> Answer<u64>;
 
     pub fn yz_is_canonical(s: Ptr, n: usize) -> bool;
+
+    pub fn yz_kinds_load(table: Ptr, table_len: usize) -> Done;
+    pub fn yz_range_next_by(
+        s: Ptr, n: usize, t: Ptr, m: usize, table_base: u64, encoding: Encoding, kinds: Ptr,
+        kinds_len: usize, walk: &mut Walk,
+    ) -> Answer<Range>;
+    pub fn yz_range_next_raw_by(
+        s: Ptr, n: usize, encoding: Encoding, kinds: Ptr, kinds_len: usize, walk: &mut Walk,
+    ) -> Answer<RawRange>;
+    pub fn yz_range_lookup_by(
+        s: Ptr, n: usize, t: Ptr, m: usize, table_base: u64, encoding: Encoding, offset: u64,
+        base_address: u64, kinds: Ptr, kinds_len: usize, address: u64,
+    ) -> Answer<Range>;
+    pub fn yz_range_coverage_by(
+        s: Ptr, n: usize, t: Ptr, m: usize, table_base: u64, encoding: Encoding, offset: u64,
+        base_address: u64, kinds: Ptr, kinds_len: usize, begins: *mut Bounds, ends: *mut Bounds,
+    ) -> Answer<u64>;
+    pub fn yz_range_runs_by(
+        s: Ptr, n: usize, t: Ptr, m: usize, table_base: u64, encoding: Encoding, offset: u64,
+        base_address: u64, kinds: Ptr, kinds_len: usize, begins: *mut u64, begins_len: usize,
+        ends: *mut u64, ends_len: usize,
+    ) -> Answer<u64>;
+    pub fn yz_range_canonical_by(
+        s: Ptr, n: usize, t: Ptr, m: usize, table_base: u64, encoding: Encoding, offset: u64,
+        base_address: u64, kinds: Ptr, kinds_len: usize, output: *mut u8, len: usize,
+    ) -> Answer<u64>;
 }

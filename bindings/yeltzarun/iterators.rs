@@ -1,15 +1,15 @@
 //! Walks as iterators, as gimli has them: an item is an answer or a refusal.
 
 use super::{
-    AddrEntryIter, AddrHeader, AddrHeaderIter, LocListIter, LocationListEntry, Range,
+    AddrEntryIter, AddrHeader, AddrHeaderIter, Kinds, LocListIter, LocationListEntry, Range,
     RawLocListEntry, RawLocListIter, RawRngListEntry, RawRngListIter, Result, RngListIter,
 };
 
 macro_rules! iterators {
-    ($($walk:ident, $item:ty;)*) => {
+    ($($walk:ident $(<$kinds:ident>)?, $item:ty;)*) => {
         $(/// After a refusal there may be further items, where the walk's own `next` says so; there
         /// is always an end.
-        impl<'a> Iterator for $walk<'a> {
+        impl<'a, $($kinds: Kinds)?> Iterator for $walk<'a, $($kinds)?> {
             type Item = Result<$item>;
 
             fn next(&mut self) -> Option<Self::Item> {
@@ -22,8 +22,8 @@ macro_rules! iterators {
 iterators! {
     AddrHeaderIter, AddrHeader<'a>;
     AddrEntryIter, u64;
-    RawRngListIter, RawRngListEntry;
-    RngListIter, Range;
+    RawRngListIter<K>, RawRngListEntry;
+    RngListIter<K>, Range;
     RawLocListIter, RawLocListEntry<'a>;
     LocListIter, LocationListEntry<'a>;
 }

@@ -1,7 +1,7 @@
 //! Marks of a walk.
 
 use super::ffi;
-use super::{LocListIter, RawLocListIter, RawRngListIter, Result, RngListIter};
+use super::{Kinds, LocListIter, RawLocListIter, RawRngListIter, Result, RngListIter};
 use core::ops::{Deref, DerefMut};
 
 /// A walk of a list, which can have marks: one of the four here, and no other type.
@@ -17,10 +17,10 @@ mod words {
 }
 
 macro_rules! walks {
-    ($($walk:ident, $($words:ident).+;)*) => {
-        $(impl ListWalk for $walk<'_> {}
+    ($($walk:ident $(<$kinds:ident>)?, $($words:ident).+;)*) => {
+        $(impl<$($kinds: Kinds)?> ListWalk for $walk<'_, $($kinds)?> {}
 
-        impl words::Words for $walk<'_> {
+        impl<$($kinds: Kinds)?> words::Words for $walk<'_, $($kinds)?> {
             fn words(&mut self) -> &mut ffi::Walk {
                 &mut self.$($words).+
             }
@@ -29,8 +29,8 @@ macro_rules! walks {
 }
 
 walks! {
-    RawRngListIter, walk;
-    RngListIter, raw.walk;
+    RawRngListIter<K>, walk;
+    RngListIter<K>, raw.walk;
     RawLocListIter, walk;
     LocListIter, raw.walk;
 }

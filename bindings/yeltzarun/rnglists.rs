@@ -2,24 +2,44 @@
 
 use super::coverage::filled;
 use super::ffi;
+use super::kinds::calls::Whole;
 use super::walk::{Table, Written};
 use super::{
     CanonicalList, Coverage, DebugAddr, DebugAddrBase, DebugRanges, DebugRngLists,
-    DebugRngListsBase, DebugRngListsIndex, Encoding, EndianSlice, Noted, Range, RangeListsOffset,
-    RawRngListEntry, Result,
+    DebugRngListsBase, DebugRngListsIndex, DwarfKinds, Encoding, EndianSlice, KindTable, Kinds,
+    Noted, Range, RangeListsOffset, RawRngListEntry, Result,
 };
 
-/// The sections with range lists.
-#[derive(Debug, Default, Clone, Copy)]
-pub struct RangeLists<'a> {
+/// The sections with range lists, and what the kinds of their entries are read by.
+#[derive(Debug, Clone, Copy)]
+pub struct RangeLists<'a, K = DwarfKinds> {
     debug_ranges: DebugRanges<'a>,
     debug_rnglists: DebugRngLists<'a>,
+    kinds: K,
+}
+
+impl Default for RangeLists<'_> {
+    fn default() -> Self {
+        RangeLists::new(DebugRanges::default(), DebugRngLists::default())
+    }
 }
 
 impl<'a> RangeLists<'a> {
     /// The two sections.
     pub fn new(debug_ranges: DebugRanges<'a>, debug_rnglists: DebugRngLists<'a>) -> RangeLists<'a> {
-        RangeLists { debug_ranges, debug_rnglists }
+        RangeLists { debug_ranges, debug_rnglists, kinds: DwarfKinds }
+    }
+}
+
+impl<'a, K: Kinds> RangeLists<'a, K> {
+    /// The same sections, whose entries begin with a table's codes: every call and every walk is by the
+    /// table. A code without a kind is refused with
+    /// [`UnknownRangeListsEntry`](super::Error::UnknownRangeListsEntry) and that code. Bare pairs, up
+    /// to version 4, have no codes and are read as ever. A canonical list made by a table has DWARF's
+    /// own numbers.
+    pub fn with_kinds(self, kinds: &'a KindTable) -> RangeLists<'a, &'a KindTable> {
+        let RangeLists { debug_ranges, debug_rnglists, .. } = self;
+        RangeLists { debug_ranges, debug_rnglists, kinds }
     }
 
     /// `.debug_ranges`.
@@ -36,6 +56,20 @@ impl<'a> RangeLists<'a> {
         Written::by_version(self.debug_ranges.section, self.debug_rnglists.section, encoding)
     }
 
+    /// The list at an offset, and the address table that it is read with.
+    fn whole(
+        &self,
+        offset: RangeListsOffset,
+        encoding: Encoding,
+        base_address: u64,
+        debug_addr: &DebugAddr<'a>,
+        debug_addr_base: DebugAddrBase,
+    ) -> Result<Whole<'a>> {
+        let list = self.written(encoding);
+        let table = list.table(debug_addr, debug_addr_base)?;
+        Ok(Whole { list, table, offset: offset.0, base_address })
+    }
+
     /// A walk over the ranges of the list at an offset.
     pub fn ranges(
         &self,
@@ -44,10 +78,11 @@ impl<'a> RangeLists<'a> {
         base_address: u64,
         debug_addr: &DebugAddr<'a>,
         debug_addr_base: DebugAddrBase,
-    ) -> Result<RngListIter<'a>> {
-        let list = self.written(unit_encoding);
-        let table = list.table(debug_addr, debug_addr_base)?;
-        Ok(RngListIter { raw: RawRngListIter::open(list, offset, base_address)?, table })
+    ) -> Result<RngListIter<'a, K>> {
+        let Whole { list, table, .. } =
+            self.whole(offset, unit_encoding, base_address, debug_addr, debug_addr_base)?;
+        let raw = RawRngListIter::open(list, self.kinds, offset, base_address)?;
+        Ok(RngListIter { raw, table })
     }
 
     /// A walk over the entries of the list at an offset as they are written.
@@ -55,8 +90,8 @@ impl<'a> RangeLists<'a> {
         &self,
         offset: RangeListsOffset,
         unit_encoding: Encoding,
-    ) -> Result<RawRngListIter<'a>> {
-        RawRngListIter::open(self.written(unit_encoding), offset, 0)
+    ) -> Result<RawRngListIter<'a, K>> {
+        RawRngListIter::open(self.written(unit_encoding), self.kinds, offset, 0)
     }
 
     /// The offset that an index has in the table at a base of `.debug_rnglists`. A row past the
@@ -85,22 +120,8 @@ impl<'a> RangeLists<'a> {
         debug_addr_base: DebugAddrBase,
         address: u64,
     ) -> Result<Option<Range>> {
-        let l = self.written(unit_encoding);
-        let t = l.table(debug_addr, debug_addr_base)?;
-        // SAFETY: each pointer and length are of one slice.
-        let answer = unsafe {
-            ffi::yz_range_lookup(
-                l.ptr(),
-                l.len(),
-                t.ptr(),
-                t.len(),
-                t.base,
-                l.encoding,
-                offset.0,
-                base_address,
-                address,
-            )
-        };
+        let whole = self.whole(offset, unit_encoding, base_address, debug_addr, debug_addr_base)?;
+        let answer = self.kinds.lookup(whole, address);
         Ok(answer.done_unless(ffi::NOT_THERE)?.map(Range::of))
     }
 
@@ -113,25 +134,9 @@ impl<'a> RangeLists<'a> {
         debug_addr: &DebugAddr<'a>,
         debug_addr_base: DebugAddrBase,
     ) -> Result<Coverage> {
-        let l = self.written(unit_encoding);
-        let t = l.table(debug_addr, debug_addr_base)?;
-        // SAFETY: each pointer and length are of one slice; a call that is done writes all places.
-        unsafe {
-            Coverage::made(|begins, ends| {
-                ffi::yz_range_coverage(
-                    l.ptr(),
-                    l.len(),
-                    t.ptr(),
-                    t.len(),
-                    t.base,
-                    l.encoding,
-                    offset.0,
-                    base_address,
-                    begins,
-                    ends,
-                )
-            })
-        }
+        let whole = self.whole(offset, unit_encoding, base_address, debug_addr, debug_addr_base)?;
+        // SAFETY: a call that is done writes all places.
+        unsafe { Coverage::made(|begins, ends| self.kinds.coverage(whole, begins, ends)) }
     }
 
     /// The ranges of the coverage of the list at an offset, put at the front of two slices, and how
@@ -150,26 +155,8 @@ impl<'a> RangeLists<'a> {
         begins: &mut [u64],
         ends: &mut [u64],
     ) -> Result<usize> {
-        let l = self.written(unit_encoding);
-        let t = l.table(debug_addr, debug_addr_base)?;
-        // SAFETY: each pointer and length are of one slice, and begins and ends are lent alone.
-        let answer = unsafe {
-            ffi::yz_range_runs(
-                l.ptr(),
-                l.len(),
-                t.ptr(),
-                t.len(),
-                t.base,
-                l.encoding,
-                offset.0,
-                base_address,
-                begins.as_mut_ptr(),
-                begins.len(),
-                ends.as_mut_ptr(),
-                ends.len(),
-            )
-        };
-        answer.done().map(|count| count as usize)
+        let whole = self.whole(offset, unit_encoding, base_address, debug_addr, debug_addr_base)?;
+        self.kinds.runs(whole, begins, ends).done().map(|count| count as usize)
     }
 
     /// The canonical list of the list at an offset, written into an output;
@@ -183,47 +170,35 @@ impl<'a> RangeLists<'a> {
         debug_addr_base: DebugAddrBase,
         output: &'o mut [u8],
     ) -> Result<CanonicalList<'o>> {
-        let l = self.written(unit_encoding);
-        let t = l.table(debug_addr, debug_addr_base)?;
-        // SAFETY: each pointer and length are of one slice, and the output is lent alone.
-        let bytes = filled(output, |o, m| unsafe {
-            ffi::yz_range_canonical(
-                l.ptr(),
-                l.len(),
-                t.ptr(),
-                t.len(),
-                t.base,
-                l.encoding,
-                offset.0,
-                base_address,
-                o,
-                m,
-            )
-        })?;
+        let whole = self.whole(offset, unit_encoding, base_address, debug_addr, debug_addr_base)?;
+        // SAFETY: pointer and length are of the output, which is lent alone.
+        let bytes = filled(output, |o, m| unsafe { self.kinds.canonical(whole, o, m) })?;
         Ok(CanonicalList::new(bytes))
     }
 }
 
 /// A walk over the entries of a range list as they are written.
 #[derive(Debug, Clone)]
-pub struct RawRngListIter<'a> {
+pub struct RawRngListIter<'a, K = DwarfKinds> {
     list: Written<'a>,
+    kinds: K,
     pub(super) walk: ffi::Walk,
 }
 
-impl<'a> RawRngListIter<'a> {
+impl<'a, K: Kinds> RawRngListIter<'a, K> {
     fn open(
         list: Written<'a>,
+        kinds: K,
         offset: RangeListsOffset,
         base_address: u64,
-    ) -> Result<RawRngListIter<'a>> {
+    ) -> Result<RawRngListIter<'a, K>> {
         let (l, mut walk) = (list, ffi::Walk::default());
         // SAFETY: pointer and length are of one slice.
         let answer = unsafe {
             ffi::yz_range_open(l.ptr(), l.len(), l.encoding, offset.0, base_address, &mut walk)
         };
         answer.done()?;
-        Ok(RawRngListIter { list, walk })
+        Ok(RawRngListIter { list, kinds, walk })
     }
 
     /// The next entry; after a refusal the list is over.
@@ -234,10 +209,7 @@ impl<'a> RawRngListIter<'a> {
 
     /// The same, and whether some LEB128 number of the entry is padded.
     pub fn next_noted(&mut self) -> Result<Option<Noted<RawRngListEntry>>> {
-        let l = self.list;
-        // SAFETY: pointer and length are of one slice.
-        let answer =
-            unsafe { ffi::yz_range_next_raw(l.ptr(), l.len(), l.encoding, &mut self.walk) };
+        let answer = self.kinds.next_raw(self.list, &mut self.walk);
         let Some(ffi::RawRange { entry, padded }) = answer.done_unless(ffi::END)? else {
             return Ok(None);
         };
@@ -258,21 +230,18 @@ impl<'a> RawRngListIter<'a> {
 
 /// A walk over the ranges of a range list.
 #[derive(Debug, Clone)]
-pub struct RngListIter<'a> {
-    pub(super) raw: RawRngListIter<'a>,
+pub struct RngListIter<'a, K = DwarfKinds> {
+    pub(super) raw: RawRngListIter<'a, K>,
     table: Table<'a>,
 }
 
-impl RngListIter<'_> {
+impl<K: Kinds> RngListIter<'_, K> {
     /// The next range. After a failed lookup in the address table the walk goes on with the
     /// following entry; after any other refusal the list is over.
     #[allow(clippy::should_implement_trait)]
     pub fn next(&mut self) -> Result<Option<Range>> {
-        let (l, t, walk) = (self.raw.list, self.table, &mut self.raw.walk);
-        // SAFETY: each pointer and length are of one slice.
-        let answer = unsafe {
-            ffi::yz_range_next(l.ptr(), l.len(), t.ptr(), t.len(), t.base, l.encoding, walk)
-        };
+        let raw = &mut self.raw;
+        let answer = raw.kinds.next(raw.list, self.table, &mut raw.walk);
         Ok(answer.done_unless(ffi::END)?.map(Range::of))
     }
 

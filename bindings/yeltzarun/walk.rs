@@ -5,7 +5,7 @@ use super::{DebugAddr, DebugAddrBase, Encoding, EndianSlice, Error, Result, RunT
 
 /// A list's section and how it is written.
 #[derive(Debug, Clone, Copy)]
-pub(super) struct Written<'a> {
+pub struct Written<'a> {
     pub(super) section: &'a [u8],
     endian: RunTimeEndian,
     pub(super) encoding: ffi::Encoding,
@@ -50,7 +50,7 @@ impl<'a> Written<'a> {
 
 /// An address table and its base.
 #[derive(Debug, Clone, Copy)]
-pub(super) struct Table<'a> {
+pub struct Table<'a> {
     bytes: &'a [u8],
     pub(super) base: u64,
 }

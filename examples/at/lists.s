@@ -1,6 +1,11 @@
 # A unit of DWARF 5 by hand, for what no compiler writes: a default location, locations that overlap, and, by the symbols
 # that the assembler is given, an attribute that is missing (NO_..), a list that is refused (BAD_KIND), another address size
-# (THREE_BYTES), or LEB128 numbers with a byte more than they need (PADDED).
+# (THREE_BYTES), LEB128 numbers with a byte more than they need (PADDED), or codes for the kinds of range list entries that are so
+# much above DWARF's (CODES).
+
+        .ifndef CODES
+        .set    CODES, 0
+        .endif
 
         .macro  number value            # a LEB128 number below 0x80
         .ifdef  PADDED
@@ -96,13 +101,13 @@ range_offsets:
         .long   3f - range_offsets
 3:
         .ifndef LEAN_ON_THE_UNIT
-        .byte   1                       # DW_RLE_base_addressx
+        .byte   CODES + 1               # DW_RLE_base_addressx
         number  0
         .endif
-        .byte   4                       # DW_RLE_offset_pair
+        .byte   CODES + 4               # DW_RLE_offset_pair
         .uleb128 0
         number  0x20
-        .byte   0                       # DW_RLE_end_of_list
+        .byte   CODES                   # DW_RLE_end_of_list
 2:
 
         .section .debug_loclists,"",@progbits

@@ -11,3 +11,4 @@ pub mod WrittenLaws
 pub mod PutLaws
 pub mod SizeLaws
 pub mod PaddedLaws
+pub mod NoCode

@@ -23,6 +23,7 @@ use Rattle.bytes.proofs.ReaderLaws.{uint-got, size-8, address-size}
 use Rattle.entries.specs.Forms.{stop, entry}
 use Rattle.entries.specs.Kinds.{rangeEntry, moved, rawRange}
 use Rattle.entries.specs.declared.RawRngListEntry.the-variants.{StartLength}
+use Rattle.entries.specs.Numbers.{itself, dwarf}
 use Rattle.entries.proofs.KindLaws.{start-length-range, end-of-ranges, range-coded, raw-there}
 use Rattle.lists.specs.Open.{walkAt, readTo}
 use Rattle.lists.specs.Convert.{range, convert, tableAt}
@@ -80,7 +81,7 @@ module _ (format : Format) (r : Range) (rest : List ℕ) (small : InBounds 8 (r 
   -- the raw entry of a range
   entry-back : rangeEntry (canonicalEncoding format) Little (spread r rest) ≡ gives (got (entry (StartLength (r .0) (r .1 - r .0))) (9 + length (unsignedBytes (r .1 - r .0))))
   entry-back =
-      range-coded (canonicalEncoding format) Little (spread r rest) (omega arith)
+      range-coded (canonicalEncoding format) Little (spread r rest) itself (omega arith)
       ∙ start-length-range (canonicalEncoding format) Little (spread r rest) code-back
       ∙ rw (begin-back, length-back)
 
@@ -107,7 +108,7 @@ entry-once r q x y small other e =
 -- the raw entry of the end mark
 end-back : (format : Format) → rangeEntry (canonicalEncoding format) Little (0 ∷ []) ≡ gives (got stop 1)
 end-back format =
-    range-coded (canonicalEncoding format) Little (0 ∷ []) (omega arith)
+    range-coded (canonicalEncoding format) Little (0 ∷ []) itself (omega arith)
     ∙ end-of-ranges (canonicalEncoding format) Little (0 ∷ []) (uint-got Little 1 (0 ∷ []) 0 (omega arith) ∙ ap (λ (n : ℕ). gives (got n 1)) (little-one 0))
 
 -- what the entry comes to
@@ -130,7 +131,7 @@ bytes-some (r ∷ rs) = omega (arith, length-append (entryBytes r) (canonicalByt
 
 module _ (format : Format) (s : List ℕ) (table : DebugAddrIndex → Result ℕ) where
   moves : (at : ℕ) → at < length s → Moved at (length s) (rawRange (canonicalEncoding format) Little s at)
-  moves = listed-past false false (canonicalEncoding format) Little s
+  moves = listed-past false (dwarf false) (canonicalEncoding format) Little s
 
   inside : (rs : List Range) (at : ℕ) → drop at s ≡ canonicalBytes rs → at < length s
   inside rs at d = omega (arith, length-drop at s, ap length d, bytes-some rs)

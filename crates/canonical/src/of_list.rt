@@ -21,7 +21,7 @@ ghost use Rattle.canonical.specs.Canonical.{canonicalBytes, canonicalOf}
 ghost use Rattle.coverage.specs.Ranges.{limit};
 ghost use Rattle.coverage.specs.Kept.{firsts};
 ghost use Rattle.coverage.specs.Gathered.{short, coverageWithin, orTooMany};
-ghost use Rattle.coverage.specs.Covered.{rangeList, locationList, holding, source};
+ghost use Rattle.coverage.specs.Covered.{rangeList, rangeListBy, locationList, holding, source};
 ghost use Rattle.coverage.specs.Output.{output, written};
 ghost use Rattle.coverage.specs.Told.{toldWrote};
 
@@ -38,11 +38,13 @@ fn canonical_long(
     endian: RunTimeEndian,
     locations: bool,
     split: bool,
+    by_table: bool,
+    kinds: &[u8],
     first_begins: &[u64; SHORT],
     first_ends: &[u64; SHORT],
     out: &mut [u8],
 ) -> Wrote
-    ensures { λ r. ⌜ output (toldWrote r) (now (out .exit)) ≡ written (andThen (orTooMany (coverageWithin (firsts short (now («first_begins» .entry)) (now («first_ends» .entry))) (limit - short) (source (holding locations split) encoding endian (now (section .entry)) (offset .0) «base_address» (now («debug_addr» .entry)) «debug_addr_base»))) (λ rs. gives (canonicalBytes rs))) (now (out .entry)) ⌝ }
+    ensures { λ r. ⌜ output (toldWrote r) (now (out .exit)) ≡ written (andThen (orTooMany (coverageWithin (firsts short (now («first_begins» .entry)) (now («first_ends» .entry))) (limit - short) (source (holding locations split «by_table» (now (kinds .entry))) encoding endian (now (section .entry)) (offset .0) «base_address» (now («debug_addr» .entry)) «debug_addr_base»))) (λ rs. gives (canonicalBytes rs))) (now (out .entry)) ⌝ }
 {
     if again {
         return canonical_long(
@@ -56,6 +58,8 @@ fn canonical_long(
             endian,
             locations,
             split,
+            by_table,
+            kinds,
             first_begins,
             first_ends,
             out,
@@ -73,6 +77,8 @@ fn canonical_long(
         endian,
         locations,
         split,
+        by_table,
+        kinds,
         first_begins,
         first_ends,
         &mut begins,
@@ -95,9 +101,11 @@ fn canonical_list(
     endian: RunTimeEndian,
     locations: bool,
     split: bool,
+    by_table: bool,
+    kinds: &[u8],
     out: &mut [u8],
 ) -> Wrote
-    ensures { λ r. ⌜ output (toldWrote r) (now (out .exit)) ≡ written (canonicalOf (source (holding locations split) encoding endian (now (section .entry)) (offset .0) «base_address» (now («debug_addr» .entry)) «debug_addr_base»)) (now (out .entry)) ⌝ }
+    ensures { λ r. ⌜ output (toldWrote r) (now (out .exit)) ≡ written (canonicalOf (source (holding locations split «by_table» (now (kinds .entry))) encoding endian (now (section .entry)) (offset .0) «base_address» (now («debug_addr» .entry)) «debug_addr_base»)) (now (out .entry)) ⌝ }
 {
     let mut begins = [0u64; SHORT];
     let mut ends = [0u64; SHORT];
@@ -111,6 +119,8 @@ fn canonical_list(
         endian,
         locations,
         split,
+        by_table,
+        kinds,
         &mut begins,
         &mut ends,
     ) {
@@ -126,6 +136,8 @@ fn canonical_list(
             endian,
             locations,
             split,
+            by_table,
+            kinds,
             &begins,
             &ends,
             out,
@@ -157,6 +169,38 @@ pub fn canonical_ranges(
         endian,
         false,
         false,
+        false,
+        section,
+        out,
+    )
+}
+
+// The same by a table of kind numbers, which bare pairs have no use for. The list that is written has DWARF's.
+pub fn canonical_ranges_by(
+    section: &[u8],
+    debug_addr: &[u8],
+    debug_addr_base: DebugAddrBase,
+    offset: RangeListsOffset,
+    base_address: u64,
+    encoding: Encoding,
+    endian: RunTimeEndian,
+    kinds: &[u8],
+    out: &mut [u8],
+) -> Wrote
+    ensures { λ r. ⌜ output (toldWrote r) (now (out .exit)) ≡ written (canonicalOf (source (rangeListBy (now (kinds .entry))) encoding endian (now (section .entry)) (offset .0) «base_address» (now («debug_addr» .entry)) «debug_addr_base»)) (now (out .entry)) ⌝ }
+{
+    canonical_list(
+        section,
+        debug_addr,
+        debug_addr_base,
+        ListsOffset(offset.0),
+        base_address,
+        encoding,
+        endian,
+        false,
+        false,
+        true,
+        kinds,
         out,
     )
 }
@@ -186,6 +230,8 @@ pub fn canonical_locations(
         endian,
         true,
         split,
+        false,
+        section,
         out,
     )
 }

@@ -8,7 +8,7 @@ use Rattle.bytes.specs.Endianity.{little}
 use Rattle.bytes.specs.Reader.{skip, uint, isSize, address}
 use Rattle.bytes.specs.declared.common.Format.the-variants.{Dwarf32}
 use Rattle.bytes.specs.declared.endianity.RunTimeEndian.the-variants.{Little, Big}
-use Rattle.entries.specs.Kinds.{rangeKinds, kindOf, coded, rangeEntry, rawAt}
+use Rattle.entries.specs.Kinds.{rangeKinds, kindOf, coded, rangeEntryBy, rawAt}
 use Rattle.lists.specs.Open.{opened}
 use Rattle.lists.specs.Convert.{convert}
 use Rattle.lists.specs.Walk.{traceFrom, trace}
@@ -35,7 +35,7 @@ list =
 
 canonical : canonicalOf list ≡ gives (0x07 ∷ 0x10 ∷ 0 ∷ 0 ∷ 0 ∷ 0 ∷ 0 ∷ 0 ∷ 0 ∷ 0x20 ∷ 0 ∷ [])
 unfolding
-    list canonicalOf coverageOf yieldedOf yieldedIn traceOf opened trace traceFrom convert rawAt rangeEntry coded kindOf rangeKinds address uint skip isSize little
+    list canonicalOf coverageOf yieldedOf yieldedIn traceOf opened trace traceFrom convert rawAt rangeEntryBy coded kindOf rangeKinds address uint skip isSize little
     inserts insert canonicalBytes entryBytes littleBytes unsignedIn
 canonical = refl
 
@@ -46,7 +46,7 @@ narrow =
 
 canonical-narrow : canonicalOf narrow ≡ canonicalOf list
 unfolding
-    list narrow canonicalOf coverageOf yieldedOf yieldedIn traceOf opened trace traceFrom convert rawAt rangeEntry coded kindOf rangeKinds address uint skip isSize little
+    list narrow canonicalOf coverageOf yieldedOf yieldedIn traceOf opened trace traceFrom convert rawAt rangeEntryBy coded kindOf rangeKinds address uint skip isSize little
     inserts insert canonicalBytes entryBytes littleBytes unsignedIn
 canonical-narrow = refl
 

@@ -25,7 +25,7 @@ use Rattle.tables.specs.declared.addr.AddrHeader.{AddrHeader}
 use Rattle.tables.specs.declared.addr.AddrHeaderIter.{AddrHeaderIter}
 use Rattle.tables.specs.declared.addr.AddrEntryIter.{AddrEntryIter}
 use Rattle.entries.specs.Forms.{versionedLength, block}
-use Rattle.entries.specs.Kinds.{rangeKinds, locationKinds, kindOf, coded, ofPair, bare, rangeEntry, locationEntry, rawAt}
+use Rattle.entries.specs.Kinds.{rangeKinds, locationKinds, kindOf, coded, ofPair, bare, rangeEntryBy, locationEntry, rawAt}
 use Rattle.entries.specs.declared.Expression.{Expression}
 use Rattle.lists.specs.Convert.{convert, tableAt}
 use Rattle.lists.specs.Open.{walkAt, oneMore, opened}
@@ -42,7 +42,7 @@ table = 0x0c ∷ 0x00 ∷ 0x00 ∷ 0x00 ∷ 0x05 ∷ 0x00 ∷ 0x04 ∷ 0x00 ∷ 
 
 -- a list by its byte order, its address table and that table's base, then version, address size, bytes, offset and base address
 unfoldable pub rangesIn : RunTimeEndian → List ℕ → ℕ → ℕ → ℕ → List ℕ → ℕ → ℕ → Result (Trace Unit)
-unfolding opened oneMore trace traceFrom convert addressAt rowAt rangeEntry rawAt coded bare ofPair kindOf rangeKinds address skip uint isSize little unsigned unsignedFrom
+unfolding opened oneMore trace traceFrom convert addressAt rowAt rangeEntryBy rawAt coded bare ofPair kindOf rangeKinds address skip uint isSize little unsigned unsignedFrom
 rangesIn endian t b version size s offset base =
     andThen (opened (enc version size) s offset base)
     (λ w. gives (trace (ranges (enc version size) endian s) (tableAt endian (enc version size) (record { 0 = b }) t) size (length s) w))
@@ -151,7 +151,7 @@ by-index = refl
 
 -- the same, call after call
 unfoldable pub calls : List ℕ → ℕ → Walk → List (Next (Item Unit) Walk)
-unfolding next oneMore trace traceFrom convert addressAt rowAt rangeEntry rawAt coded kindOf rangeKinds address skip uint isSize little unsigned unsignedFrom
+unfolding next oneMore trace traceFrom convert addressAt rowAt rangeEntryBy rawAt coded kindOf rangeKinds address skip uint isSize little unsigned unsignedFrom
 calls s zero w = []
 calls s (suc n) w =
     let r = nextRange (enc 5 4) Little s table (record { 0 = 8 }) w in r ∷ calls s n (leftBy r)

@@ -11,7 +11,7 @@ use Rattle.bytes.specs.declared.endianity.RunTimeEndian.the-variants.{Little}
 use Rattle.tables.specs.Row.{rowAt}
 use Rattle.tables.specs.Next.{Next, ends, hands}
 use Rattle.tables.specs.Addr.{addressAt}
-use Rattle.entries.specs.Kinds.{rangeKinds, kindOf, coded, rangeEntry, rawAt}
+use Rattle.entries.specs.Kinds.{rangeKinds, kindOf, coded, rangeEntryBy, rawAt}
 use Rattle.entries.specs.declared.RawRngListEntry.{RawRngListEntry}
 use Rattle.entries.specs.declared.RawRngListEntry.the-variants.{BaseAddress, StartxEndx, OffsetPair, StartLength}
 use Rattle.lists.specs.Convert.{convert}
@@ -32,7 +32,7 @@ turned (hands (refused n vs) w) = w
 turned (ends w) = w
 
 rawCalls : List ℕ → ℕ → Walk → List (Next RawRngListEntry Walk)
-unfolding converts nextRaw oneMore rangeEntry rawAt coded kindOf rangeKinds address skip uint isSize little unsigned unsignedFrom
+unfolding converts nextRaw oneMore rangeEntryBy rawAt coded kindOf rangeKinds address skip uint isSize little unsigned unsignedFrom
 rawCalls s zero w = []
 rawCalls s (suc n) w =
     let r = nextRawRange (enc 5 4) Little s w in r ∷ rawCalls s n (turned r)
@@ -131,7 +131,7 @@ locations = refl
 
 -- the entries that the definition reads before places of these lists
 before : List ℕ → List ℕ → List ℕ
-unfolding entriesFrom rangeEntry rawAt coded kindOf rangeKinds address skip uint isSize little unsigned unsignedFrom
+unfolding entriesFrom rangeEntryBy rawAt coded kindOf rangeKinds address skip uint isSize little unsigned unsignedFrom
 before s places = map (entriesBefore (ranges (enc 5 4) Little s) 0) places
 
 before-based : before based (0 ∷ 5 ∷ 8 ∷ 11 ∷ 14 ∷ 16 ∷ []) ≡ 0 ∷ 1 ∷ 2 ∷ 3 ∷ 4 ∷ 5 ∷ []

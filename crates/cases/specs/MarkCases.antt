@@ -14,8 +14,9 @@ use Rattle.bytes.specs.declared.endianity.RunTimeEndian.the-variants.{Little}
 use Rattle.tables.specs.Row.{rowAt}
 use Rattle.tables.specs.Next.{ends, hands}
 use Rattle.tables.specs.Addr.{addressAt}
+use Rattle.entries.specs.Numbers.{dwarf}
 use Rattle.entries.specs.Forms.{versionedLength, block}
-use Rattle.entries.specs.Kinds.{rangeKinds, locationKinds, kindOf, coded, rangeEntry, locationEntry, rawAt}
+use Rattle.entries.specs.Kinds.{rangeKinds, locationKinds, kindOf, coded, rangeEntryBy, locationEntry, rawAt}
 use Rattle.entries.specs.Listed.{EntryIn}
 use Rattle.entries.specs.Padded.{codedPadded, rangePart, locationPart}
 use Rattle.entries.specs.declared.Expression.{Expression}
@@ -85,7 +86,7 @@ not-set = refl
 -- steps from a walk with no mark set: what they tell, and the walk with its marks behind them
 along : (x : Source) → List (Step (Call (x .locations))) → Walk → List (Tells (Answer (x .locations)))
 unfolding
-    next nextRaw convertRaw oneMore trace traceFrom convert addressAt rowAt rangeEntry locationEntry rawAt coded kindOf rangeKinds locationKinds versionedLength block split rangePart locationPart
+    next nextRaw convertRaw oneMore trace traceFrom convert addressAt rowAt rangeEntryBy locationEntry rawAt coded kindOf rangeKinds locationKinds versionedLength block split rangePart locationPart
     codedPadded numberAt isPadded address skip uint isSize little unsigned unsignedFrom unsignedIn
 along x steps w = answers structs (over x) steps (fresh structs w)
 
@@ -95,7 +96,7 @@ behind x steps w = run structs (over x) steps (fresh structs w)
 
 -- a list by whether it holds locations, whether it is split, version, address size and bytes; a call of `next` with the table of docs/SCOPE.md
 abbrev listing : Bool → Bool → ℕ → ℕ → List ℕ → Source
-listing locations dwo version size s = record { locations = locations; split = dwo; encoding = enc version size; endian = Little; section = s }
+listing locations dwo version size s = record { locations = locations; coding = dwarf dwo; encoding = enc version size; endian = Little; section = s }
 
 abbrev ranges : List ℕ → Source
 ranges s = listing false false 5 4 s

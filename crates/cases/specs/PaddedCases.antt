@@ -16,7 +16,7 @@ use Rattle.bytes.specs.declared.endianity.RunTimeEndian.the-variants.{Little, B
 use Rattle.bytes.specs.declared.leb128.Number.{Number}
 use Rattle.tables.specs.Next.{Next, ends, hands}
 use Rattle.entries.specs.Forms.{addrIndex, versionedLength, block}
-use Rattle.entries.specs.Kinds.{rangeKinds, locationKinds, kindOf, coded, ofPair, bare, rangeEntry, locationEntry, rawAt, rawRange, rawLocation}
+use Rattle.entries.specs.Kinds.{rangeKinds, locationKinds, kindOf, coded, ofPair, bare, rangeEntryBy, locationEntry, rawAt, rawRange, rawLocation}
 use Rattle.entries.specs.Padded.{Noted, codedPadded, rangePart, locationPart, rangePadded, locationPadded, noted}
 use Rattle.entries.specs.Told.{Step, found, ended, stepOf}
 use Rattle.entries.specs.declared.RawRngListEntry.{RawRngListEntry}
@@ -85,7 +85,7 @@ at-places = refl
 -- calls of a walk from a list's front on
 rangeCalls : RunTimeEndian → Encoding → List ℕ → ℕ → Walk → List (Next (Noted RawRngListEntry) Walk)
 unfolding
-    nextRaw oneMore rangeEntry rawAt coded bare ofPair kindOf rangeKinds rangePart codedPadded numberAt isPadded address skip uint isSize little unsigned unsignedFrom unsignedIn
+    nextRaw oneMore rangeEntryBy rawAt coded bare ofPair kindOf rangeKinds rangePart codedPadded numberAt isPadded address skip uint isSize little unsigned unsignedFrom unsignedIn
 rangeCalls endian encoding s zero w = []
 rangeCalls endian encoding s (suc n) w = let r = notedRange encoding endian s w in r ∷ rangeCalls endian encoding s n (leftBy r)
 

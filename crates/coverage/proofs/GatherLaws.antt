@@ -19,6 +19,7 @@ use Rattle.bytes.specs.declared.endianity.RunTimeEndian.{RunTimeEndian}
 use Rattle.bytes.specs.declared.error.Error.{Error}
 use Rattle.bytes.specs.declared.error.Error.the-variants.{TooManyRanges}
 use Rattle.bytes.proofs.Order.{lt-or-le}
+use Rattle.entries.specs.Numbers.{codingOf, dwarf, tabled}
 use Rattle.lists.specs.Open.{opened}
 use Rattle.lists.specs.Convert.{tableAt}
 use Rattle.lists.specs.Walk as both
@@ -34,7 +35,7 @@ use Rattle.lists.proofs.Past.{listed-past}
 use Rattle.lists.proofs.CallLaws.{next-ahead}
 use Rattle.lists.proofs.CountLaws.{trace-uncounted}
 use Rattle.coverage.specs.Ranges.{Range, Covers, Apart, limit, runs}
-use Rattle.coverage.specs.Covered.{yieldedIn, Holds, rangeList, locationList, holding, Source, source, listing, traceOf, coverageOf, Bytes}
+use Rattle.coverage.specs.Covered.{yieldedIn, Holds, rangeList, rangeListBy, locationList, holding, Source, source, listing, traceOf, coverageOf, Bytes}
 use Rattle.coverage.specs.Kept.{paired, firsts, ends}
 use Rattle.coverage.specs.Gathered.{short, Stored, Within, all, full, inFront, within, nonempty, covering, coverageWithin, listFrom, orTooMany, toldGathered}
 use Rattle.coverage.specs.Sorted.{Sized, AtLeast, Copied, ToRuns}
@@ -276,24 +277,29 @@ module _ (done : List Range) (room : ℕ) (x : Source) where
       onward-given Runs opens (λ w. mapped covering (inFront done (within room w (traceOf x w))))
       (λ w e. covering-runs (inFront done (within room w (traceOf x w))))
 
--- the same of a list by two tests
-module _ (done : List Range) (room : ℕ) (split : Bool) (encoding : Encoding) (endian : RunTimeEndian) (s : List ℕ) (offset base : ℕ) (table : List ℕ) (tableBase : DebugAddrBase) {w : Walk} (o : opened encoding s offset base ≡ gives w) where
+-- the same of a list by three tests and a table
+module _ (done : List Range) (room : ℕ) (split by : Bool) (kinds : List ℕ) (encoding : Encoding) (endian : RunTimeEndian) (s : List ℕ) (offset base : ℕ) (table : List ℕ) (tableBase : DebugAddrBase) {w : Walk} (o : opened encoding s offset base ≡ gives w) where
   abbrev walkedBy : Bool → Result Within
-  walkedBy l = inFront done (within room w (trace (both.listed l split encoding endian s) (tableAt endian encoding tableBase table) (encoding .«address_size») (length s) w))
+  walkedBy l = inFront done (within room w (trace (both.listed l (codingOf split by kinds) encoding endian s) (tableAt endian encoding tableBase table) (encoding .«address_size») (length s) w))
 
   abbrev sourceBy : Bool → Source
-  sourceBy l = source (holding l split) encoding endian s offset base table tableBase
+  sourceBy l = source (holding l split by kinds) encoding endian s offset base table tableBase
 
   walked-coverage : (l : Bool) → coverageWithin done room (sourceBy l) ≡ mapped covering (walkedBy l)
   unfolding traceOf
   walked-coverage true = within-coverage done room (sourceBy true) o
-  walked-coverage false = within-coverage done room (sourceBy false) o
+  walked-coverage false = either by
+    where
+      either : (t : Bool) → coverageWithin done room (source (holding false split t kinds) encoding endian s offset base table tableBase)
+          ≡ mapped covering (inFront done (within room w (trace (both.listed false (codingOf split t kinds) encoding endian s) (tableAt endian encoding tableBase table) (encoding .«address_size») (length s) w)))
+      either true = within-coverage done room (source (rangeListBy kinds) encoding endian s offset base table tableBase) o
+      either false = within-coverage done room (source rangeList encoding endian s offset base table tableBase) o
 
   module _ (l : Bool) (k : Gathered) (bs es : List ℕ) (g : toldGathered k bs es ≡ walkedBy l) where
     pub gathered-few : {n : ℕ} → k ≡ gathered.All n → n ≤ length done + room
     gathered-few {n} q =
         let e : walkedBy l ≡ gives (all n (firsts n bs es)) = sym g ∙ ap (λ (k : Gathered). toldGathered k bs es) q in
-        subst (Given (Fits (length done + room))) e (gathered-fits done room w (trace (both.listed l split encoding endian s) (tableAt endian encoding tableBase table) (encoding .«address_size») (length s) w)) .0
+        subst (Given (Fits (length done + room))) e (gathered-fits done room w (trace (both.listed l (codingOf split by kinds) encoding endian s) (tableAt endian encoding tableBase table) (encoding .«address_size») (length s) w)) .0
 
     pub cover-got : {n r : ℕ} (xs ys : List ℕ) → k ≡ gathered.All n → AtLeast n bs es → ToRuns (firsts n bs es) (length bs) xs ys r → toldGathered (gathered.All r) xs ys ≡ coverageWithin done room (sourceBy l)
     cover-got {n} {r} xs ys q h t =
@@ -318,8 +324,9 @@ module _ (x : Source) where
   walk-past = past-of (x .holds)
     where
       past-of : (h : Holds) (at : ℕ) → at < length (x .section) → Moved at (length (x .section)) (listing h (x .encoding) (x .endian) (x .section) .read at)
-      past-of rangeList = listed-past false false (x .encoding) (x .endian) (x .section)
-      past-of (locationList split) = listed-past true split (x .encoding) (x .endian) (x .section)
+      past-of rangeList = listed-past false (dwarf false) (x .encoding) (x .endian) (x .section)
+      past-of (rangeListBy kinds) = listed-past false (tabled kinds) (x .encoding) (x .endian) (x .section)
+      past-of (locationList split) = listed-past true (dwarf split) (x .encoding) (x .endian) (x .section)
 
   module _ (v : Walk) {r : Result (Item (listing (x .holds) (x .encoding) (x .endian) (x .section) .Carried))} {w : Walk} {u : Trace (listing (x .holds) (x .encoding) (x .endian) (x .section) .Carried)} (e : traceOf x v ≡ handed r w u) where
     abbrev Handed : Trace (listing (x .holds) (x .encoding) (x .endian) (x .section) .Carried) → Type 0

@@ -13,7 +13,7 @@ use Rattle.bytes.specs.declared.endianity.RunTimeEndian.the-variants.{Little}
 use Rattle.bytes.specs.declared.error.Error.the-variants.{TooManyRanges}
 use Rattle.lists.specs.Open.{opened}
 use Rattle.lists.specs.Convert.{tableAt}
-use Rattle.lists.specs.Walk.{Listing, ranges, locations, item, Trace, over, trace, handed}
+use Rattle.lists.specs.Walk.{Listing, ranges, rangesBy, locations, item, Trace, over, trace, handed}
 use Rattle.lists.specs.declared.Walk.{Walk}
 use Rattle.coverage.specs.Ranges.{Range, Covers, limit, runs}
 
@@ -25,15 +25,18 @@ yieldedIn room (handed (refused n vs) w t) = refused n vs
 yieldedIn zero (handed (gives i) w t) = refusal TooManyRanges
 yieldedIn (suc room) (handed (gives (item b e d)) w t) = andThen (yieldedIn room t) (λ rs. gives ((b, e) ∷ rs))
 
--- whether a list holds ranges or locations, and then whether it is split (docs/SCOPE.md, "Demand 3")
+-- whether a list holds ranges or locations, and then whether it is split; the table of kind numbers that a range list is walked with
+-- belongs to it (docs/SCOPE.md, "Demand 3")
 pub data Holds : Type 0 where
   rangeList : Holds
+  rangeListBy : List ℕ → Holds
   locationList : Bool → Holds
 
--- the same by two tests; a range list is never split
-abbrev pub holding : Bool → Bool → Holds
-holding true split = locationList split
-holding false split = rangeList
+-- the same by three tests and a table; a range list is never split, and a location list has no table
+abbrev pub holding : Bool → Bool → Bool → List ℕ → Holds
+holding true split tabled kinds = locationList split
+holding false split true kinds = rangeListBy kinds
+holding false split false kinds = rangeList
 
 -- a list: its sections, offset, base address, address table and table base, version and size, byte order, and what it holds
 -- (docs/SCOPE.md, "Demand 3")
@@ -64,6 +67,7 @@ source holds encoding endian s offset base table tableBase =
 -- how a list's entries are read
 abbrev pub listing : Holds → Encoding → RunTimeEndian → List ℕ → Listing
 listing rangeList encoding endian s = ranges encoding endian s
+listing (rangeListBy kinds) encoding endian s = rangesBy kinds encoding endian s
 listing (locationList split) encoding endian s = locations split encoding endian s
 
 -- what a list does from a walk on

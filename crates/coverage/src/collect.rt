@@ -8,6 +8,7 @@ use super::Verdict;
 use super::place::place_canonical;
 use super::place::place_locations;
 use super::place::place_ranges;
+use super::place::place_ranges_by;
 use bytes::common::DebugAddrBase;
 use bytes::common::DwarfFileType;
 use bytes::common::Encoding;
@@ -27,10 +28,11 @@ ghost use mathlib.Core.List.{[]};
 ghost use Rattle.bytes.specs.declared.common.Format.the-variants.{Dwarf32};
 ghost use Rattle.bytes.specs.Common.{isSplit};
 ghost use Rattle.bytes.specs.Reader.{isSize};
+ghost use Rattle.entries.specs.Numbers.{codingOf};
 ghost use Rattle.lists.specs.Convert.{tableAt};
 ghost use Rattle.lists.specs.Walk.{trace, listed};
 ghost use Rattle.coverage.specs.Ranges.{limit};
-ghost use Rattle.coverage.specs.Covered.{rangeList, locationList, holding, source, coverageOf, readBack};
+ghost use Rattle.coverage.specs.Covered.{rangeList, rangeListBy, locationList, holding, source, coverageOf, readBack};
 ghost use Rattle.coverage.specs.Told.{made, toldMade, toldCount, byCount};
 ghost use Rattle.coverage.specs.Sorted.{Sized};
 ghost use Rattle.coverage.specs.Kept.{firsts};
@@ -73,13 +75,15 @@ fn gather(
     endian: RunTimeEndian,
     locations: bool,
     split: bool,
+    by_table: bool,
+    kinds: &[u8],
     done: usize,
     begins: &mut [u64],
     ends: &mut [u64],
 ) -> Gathered
     requires { ⌜ isSize (encoding .«address_size») ≡ true ⌝ }
     requires { ⌜ (done ≤ length (now begins)) × (length (now begins) ≤ limit) × Sized (length (now begins)) (now begins) (now ends) ⌝ }
-    ensures { λ r. ⌜ toldGathered r (now (begins .exit)) (now (ends .exit)) ≡ inFront (firsts done (now (begins .entry)) (now (ends .entry))) (within (length (now (begins .entry)) - done) start (trace (listed locations split encoding endian (now (section .entry))) (tableAt endian encoding «debug_addr_base» (now («debug_addr» .entry))) (encoding .«address_size») (length (now (section .entry))) start)) ⌝ }
+    ensures { λ r. ⌜ toldGathered r (now (begins .exit)) (now (ends .exit)) ≡ inFront (firsts done (now (begins .entry)) (now (ends .entry))) (within (length (now (begins .entry)) - done) start (trace (listed locations (codingOf split «by_table» (now (kinds .entry))) encoding endian (now (section .entry))) (tableAt endian encoding «debug_addr_base» (now («debug_addr» .entry))) (encoding .«address_size») (length (now (section .entry))) start)) ⌝ }
     ensures { λ _. ⌜ Sized (length (now (begins .entry))) (now (begins .exit)) (now (ends .exit)) ⌝ }
 {
     let mut walk = start;
@@ -94,6 +98,8 @@ fn gather(
             endian,
             locations,
             split,
+            by_table,
+            kinds,
         ) {
             LocationAnswer::Location(location, after) => {
                 let range = location.range;
@@ -132,12 +138,14 @@ fn cover(
     endian: RunTimeEndian,
     locations: bool,
     split: bool,
+    by_table: bool,
+    kinds: &[u8],
     done: usize,
     begins: &mut [u64],
     ends: &mut [u64],
 ) -> Gathered
     requires { ⌜ (done ≤ length (now begins)) × (length (now begins) ≤ limit) × Sized (length (now begins)) (now begins) (now ends) ⌝ }
-    ensures { λ r. ⌜ toldGathered r (now (begins .exit)) (now (ends .exit)) ≡ coverageWithin (firsts done (now (begins .entry)) (now (ends .entry))) (length (now (begins .entry)) - done) (source (holding locations split) encoding endian (now (section .entry)) offset «base_address» (now («debug_addr» .entry)) «debug_addr_base») ⌝ }
+    ensures { λ r. ⌜ toldGathered r (now (begins .exit)) (now (ends .exit)) ≡ coverageWithin (firsts done (now (begins .entry)) (now (ends .entry))) (length (now (begins .entry)) - done) (source (holding locations split «by_table» (now (kinds .entry))) encoding endian (now (section .entry)) offset «base_address» (now («debug_addr» .entry)) «debug_addr_base») ⌝ }
     ensures { λ _. ⌜ Sized (length (now (begins .entry))) (now (begins .exit)) (now (ends .exit)) ⌝ }
 {
     // Both lists open alike.
@@ -152,6 +160,8 @@ fn cover(
             endian,
             locations,
             split,
+            by_table,
+            kinds,
             done,
             begins,
             ends,
@@ -175,10 +185,12 @@ pub fn cover_short(
     endian: RunTimeEndian,
     locations: bool,
     split: bool,
+    by_table: bool,
+    kinds: &[u8],
     begins: &mut [u64; SHORT],
     ends: &mut [u64; SHORT],
 ) -> Gathered
-    ensures { λ r. ⌜ toldGathered r (now (begins .exit)) (now (ends .exit)) ≡ coverageWithin [] short (source (holding locations split) encoding endian (now (section .entry)) (offset .0) «base_address» (now («debug_addr» .entry)) «debug_addr_base») ⌝ }
+    ensures { λ r. ⌜ toldGathered r (now (begins .exit)) (now (ends .exit)) ≡ coverageWithin [] short (source (holding locations split «by_table» (now (kinds .entry))) encoding endian (now (section .entry)) (offset .0) «base_address» (now («debug_addr» .entry)) «debug_addr_base») ⌝ }
     ensures { λ _. ⌜ Sized short (now (begins .exit)) (now (ends .exit)) ⌝ }
 {
     cover(
@@ -191,6 +203,8 @@ pub fn cover_short(
         endian,
         locations,
         split,
+        by_table,
+        kinds,
         0,
         begins,
         ends,
@@ -209,12 +223,14 @@ pub fn cover_long(
     endian: RunTimeEndian,
     locations: bool,
     split: bool,
+    by_table: bool,
+    kinds: &[u8],
     first_begins: &[u64; SHORT],
     first_ends: &[u64; SHORT],
     begins: &mut [u64; LIMIT],
     ends: &mut [u64; LIMIT],
 ) -> Gathered
-    ensures { λ r. ⌜ toldGathered r (now (begins .exit)) (now (ends .exit)) ≡ coverageWithin (firsts short (now («first_begins» .entry)) (now («first_ends» .entry))) (limit - short) (source (holding locations split) encoding endian (now (section .entry)) (offset .0) «base_address» (now («debug_addr» .entry)) «debug_addr_base») ⌝ }
+    ensures { λ r. ⌜ toldGathered r (now (begins .exit)) (now (ends .exit)) ≡ coverageWithin (firsts short (now («first_begins» .entry)) (now («first_ends» .entry))) (limit - short) (source (holding locations split «by_table» (now (kinds .entry))) encoding endian (now (section .entry)) (offset .0) «base_address» (now («debug_addr» .entry)) «debug_addr_base») ⌝ }
     ensures { λ _. ⌜ Sized limit (now (begins .exit)) (now (ends .exit)) ⌝ }
 {
     super::sort::copy(first_begins, begins, 0, SHORT);
@@ -229,6 +245,8 @@ pub fn cover_long(
         endian,
         locations,
         split,
+        by_table,
+        kinds,
         SHORT,
         begins,
         ends,
@@ -277,6 +295,36 @@ pub fn range_coverage(
         base_address,
         encoding,
         endian,
+        &mut begins,
+        &mut ends,
+    );
+    by_count(collected, begins, ends)
+}
+
+// The same by a table of kind numbers, which bare pairs have no use for.
+pub fn range_coverage_by(
+    section: &[u8],
+    debug_addr: &[u8],
+    debug_addr_base: DebugAddrBase,
+    offset: RangeListsOffset,
+    base_address: u64,
+    encoding: Encoding,
+    endian: RunTimeEndian,
+    kinds: &[u8],
+) -> Made
+    ensures { λ r. ⌜ toldMade r ≡ made (coverageOf (source (rangeListBy (now (kinds .entry))) encoding endian (now (section .entry)) (offset .0) «base_address» (now («debug_addr» .entry)) «debug_addr_base»)) ⌝ }
+{
+    let mut begins = [0u64; LIMIT];
+    let mut ends = [0u64; LIMIT];
+    let collected = place_ranges_by(
+        section,
+        debug_addr,
+        debug_addr_base,
+        offset,
+        base_address,
+        encoding,
+        endian,
+        kinds,
         &mut begins,
         &mut ends,
     );

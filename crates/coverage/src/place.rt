@@ -24,7 +24,7 @@ ghost use Rattle.bytes.specs.Common.{isSplit};
 ghost use Rattle.bytes.specs.Read.{gives};
 ghost use Rattle.bytes.specs.declared.common.Format.the-variants.{Dwarf32};
 ghost use Rattle.coverage.specs.Ranges.{limit};
-ghost use Rattle.coverage.specs.Covered.{rangeList, locationList, holding, source, coverageOf, readBack};
+ghost use Rattle.coverage.specs.Covered.{rangeList, rangeListBy, locationList, holding, source, coverageOf, readBack};
 ghost use Rattle.coverage.specs.Kept.{firsts, padded};
 ghost use Rattle.coverage.specs.Gathered.{short, coverageWithin, orTooMany};
 ghost use Rattle.coverage.specs.Sorted.{AtLeast};
@@ -59,12 +59,14 @@ fn runs_long(
     endian: RunTimeEndian,
     locations: bool,
     split: bool,
+    by_table: bool,
+    kinds: &[u8],
     first_begins: &[u64; SHORT],
     first_ends: &[u64; SHORT],
     begins: &mut [u64],
     ends: &mut [u64],
 ) -> Collected
-    ensures { λ r. ⌜ placed (toldCount r) (now (begins .exit)) (now (ends .exit)) ≡ putting (orTooMany (coverageWithin (firsts short (now («first_begins» .entry)) (now («first_ends» .entry))) (limit - short) (source (holding locations split) encoding endian (now (section .entry)) (offset .0) «base_address» (now («debug_addr» .entry)) «debug_addr_base»))) (now (begins .entry)) (now (ends .entry)) ⌝ }
+    ensures { λ r. ⌜ placed (toldCount r) (now (begins .exit)) (now (ends .exit)) ≡ putting (orTooMany (coverageWithin (firsts short (now («first_begins» .entry)) (now («first_ends» .entry))) (limit - short) (source (holding locations split «by_table» (now (kinds .entry))) encoding endian (now (section .entry)) (offset .0) «base_address» (now («debug_addr» .entry)) «debug_addr_base»))) (now (begins .entry)) (now (ends .entry)) ⌝ }
 {
     if again {
         return runs_long(
@@ -78,6 +80,8 @@ fn runs_long(
             endian,
             locations,
             split,
+            by_table,
+            kinds,
             first_begins,
             first_ends,
             begins,
@@ -96,6 +100,8 @@ fn runs_long(
         endian,
         locations,
         split,
+        by_table,
+        kinds,
         first_begins,
         first_ends,
         &mut bs,
@@ -118,10 +124,12 @@ fn runs_list(
     endian: RunTimeEndian,
     locations: bool,
     split: bool,
+    by_table: bool,
+    kinds: &[u8],
     begins: &mut [u64],
     ends: &mut [u64],
 ) -> Collected
-    ensures { λ r. ⌜ placed (toldCount r) (now (begins .exit)) (now (ends .exit)) ≡ putting (coverageOf (source (holding locations split) encoding endian (now (section .entry)) (offset .0) «base_address» (now («debug_addr» .entry)) «debug_addr_base»)) (now (begins .entry)) (now (ends .entry)) ⌝ }
+    ensures { λ r. ⌜ placed (toldCount r) (now (begins .exit)) (now (ends .exit)) ≡ putting (coverageOf (source (holding locations split «by_table» (now (kinds .entry))) encoding endian (now (section .entry)) (offset .0) «base_address» (now («debug_addr» .entry)) «debug_addr_base»)) (now (begins .entry)) (now (ends .entry)) ⌝ }
 {
     let mut bs = [0u64; SHORT];
     let mut es = [0u64; SHORT];
@@ -135,6 +143,8 @@ fn runs_list(
         endian,
         locations,
         split,
+        by_table,
+        kinds,
         &mut bs,
         &mut es,
     ) {
@@ -150,6 +160,8 @@ fn runs_list(
             endian,
             locations,
             split,
+            by_table,
+            kinds,
             &bs,
             &es,
             begins,
@@ -182,10 +194,12 @@ fn place_list(
     endian: RunTimeEndian,
     locations: bool,
     split: bool,
+    by_table: bool,
+    kinds: &[u8],
     begins: &mut [u64; LIMIT],
     ends: &mut [u64; LIMIT],
 ) -> Collected
-    ensures { λ r. ⌜ placed (toldCount r) (now (begins .exit)) (now (ends .exit)) ≡ placing (coverageOf (source (holding locations split) encoding endian (now (section .entry)) (offset .0) «base_address» (now («debug_addr» .entry)) «debug_addr_base»)) (now (begins .entry)) (now (ends .entry)) ⌝ }
+    ensures { λ r. ⌜ placed (toldCount r) (now (begins .exit)) (now (ends .exit)) ≡ placing (coverageOf (source (holding locations split «by_table» (now (kinds .entry))) encoding endian (now (section .entry)) (offset .0) «base_address» (now («debug_addr» .entry)) «debug_addr_base»)) (now (begins .entry)) (now (ends .entry)) ⌝ }
 {
     match runs_list(
         section,
@@ -197,6 +211,8 @@ fn place_list(
         endian,
         locations,
         split,
+        by_table,
+        kinds,
         begins,
         ends,
     ) {
@@ -235,12 +251,46 @@ pub fn runs_of_ranges(
         endian,
         false,
         false,
+        false,
+        section,
         begins,
         ends,
     )
 }
 
-// The same of the location list at an offset, plain or split.
+// The same by a table of kind numbers, which bare pairs have no use for.
+pub fn runs_of_ranges_by(
+    section: &[u8],
+    debug_addr: &[u8],
+    debug_addr_base: DebugAddrBase,
+    offset: RangeListsOffset,
+    base_address: u64,
+    encoding: Encoding,
+    endian: RunTimeEndian,
+    kinds: &[u8],
+    begins: &mut [u64],
+    ends: &mut [u64],
+) -> Collected
+    ensures { λ r. ⌜ placed (toldCount r) (now (begins .exit)) (now (ends .exit)) ≡ putting (coverageOf (source (rangeListBy (now (kinds .entry))) encoding endian (now (section .entry)) (offset .0) «base_address» (now («debug_addr» .entry)) «debug_addr_base»)) (now (begins .entry)) (now (ends .entry)) ⌝ }
+{
+    runs_list(
+        section,
+        debug_addr,
+        debug_addr_base,
+        ListsOffset(offset.0),
+        base_address,
+        encoding,
+        endian,
+        false,
+        false,
+        true,
+        kinds,
+        begins,
+        ends,
+    )
+}
+
+// Those of the location list at an offset, plain or split.
 pub fn runs_of_locations(
     section: &[u8],
     debug_addr: &[u8],
@@ -266,6 +316,8 @@ pub fn runs_of_locations(
         endian,
         true,
         split,
+        false,
+        section,
         begins,
         ends,
     )
@@ -296,12 +348,46 @@ pub fn place_ranges(
         endian,
         false,
         false,
+        false,
+        section,
         begins,
         ends,
     )
 }
 
-// The same of the location list at an offset, plain or split.
+// The same by a table of kind numbers, which bare pairs have no use for.
+pub fn place_ranges_by(
+    section: &[u8],
+    debug_addr: &[u8],
+    debug_addr_base: DebugAddrBase,
+    offset: RangeListsOffset,
+    base_address: u64,
+    encoding: Encoding,
+    endian: RunTimeEndian,
+    kinds: &[u8],
+    begins: &mut [u64; LIMIT],
+    ends: &mut [u64; LIMIT],
+) -> Collected
+    ensures { λ r. ⌜ placed (toldCount r) (now (begins .exit)) (now (ends .exit)) ≡ placing (coverageOf (source (rangeListBy (now (kinds .entry))) encoding endian (now (section .entry)) (offset .0) «base_address» (now («debug_addr» .entry)) «debug_addr_base»)) (now (begins .entry)) (now (ends .entry)) ⌝ }
+{
+    place_list(
+        section,
+        debug_addr,
+        debug_addr_base,
+        ListsOffset(offset.0),
+        base_address,
+        encoding,
+        endian,
+        false,
+        false,
+        true,
+        kinds,
+        begins,
+        ends,
+    )
+}
+
+// That of the location list at an offset, plain or split.
 pub fn place_locations(
     section: &[u8],
     debug_addr: &[u8],
@@ -327,12 +413,14 @@ pub fn place_locations(
         endian,
         true,
         split,
+        false,
+        section,
         begins,
         ends,
     )
 }
 
-// The same of a canonical list, walked as a section of its own.
+// That of a canonical list, walked as a section of its own.
 pub fn place_canonical(
     bytes: &[u8],
     begins: &mut [u64; LIMIT],
@@ -354,6 +442,8 @@ pub fn place_canonical(
         RunTimeEndian::Little,
         false,
         false,
+        false,
+        bytes,
         begins,
         ends,
     )

@@ -27,7 +27,7 @@ use Rattle.entries.specs.declared.RawRngListEntry.the-variants as rng
 use Rattle.entries.specs.declared.RawLocListEntry.{RawLocListEntry}
 use Rattle.entries.specs.declared.RawLocListEntry.the-variants as loc
 use Rattle.entries.specs.Forms.{Form, index, number, rangeLength, address, expression, Value, versionedLength, block, operand, Takes, Raw, stop, entry, operands}
-use Rattle.entries.specs.Kinds.{Kind, endOfList, unknown, kind, Row, row, rangeKinds, locationKinds, kindOf, ofKind, coded, isEnd, ofPair, bare, rangeEntry, locationEntry, moved, rawAt, rawRange, rawLocation}
+use Rattle.entries.specs.Kinds.{Kind, endOfList, unknown, kind, Row, row, rangeKinds, locationKinds, kindOf, ofKind, coded, isEnd, ofPair, bare, numbered, rangeEntryBy, locationEntry, moved, rawAt, rawRangeBy, rawLocation}
 
 -- of what is read, if anything is
 abbrev pub Gives : {A : Type 0} → (A → Type 0) → Read A → Type 0
@@ -211,12 +211,12 @@ location-rows size len = (
   ),
 )
 
-range-entry-sized : (encoding : Encoding) (endian : RunTimeEndian) (s : List ℕ) → ((i : ℕ) → getD s i 0 < 256) → Gives (OfEntry (Sized (encoding .«address_size»))) (rangeEntry encoding endian s)
-unfolding rangeEntry
-range-entry-sized encoding endian s bytes =
+range-entry-sized : (numberOf : ℕ → ℕ) (encoding : Encoding) (endian : RunTimeEndian) (s : List ℕ) → ((i : ℕ) → getD s i 0 < 256) → Gives (OfEntry (Sized (encoding .«address_size»))) (rangeEntryBy numberOf encoding endian s)
+unfolding rangeEntryBy
+range-entry-sized numberOf encoding endian s bytes =
     pick-ind (Gives (OfEntry (Sized (encoding .«address_size»)))) (leb 5 (encoding .version))
-    (λ _. coded-meets encoding endian 0 s bytes _ (Sized (encoding .«address_size»)) _ (kindOf rangeKinds)
-    (λ code. rows-meet (encoding .«address_size») (0 + length s) (Sized (encoding .«address_size»)) rangeKinds code (range-rows (encoding .«address_size») (0 + length s))))
+    (λ _. coded-meets encoding endian 0 s bytes _ (Sized (encoding .«address_size»)) _ (numbered numberOf)
+    (λ code. rows-meet (encoding .«address_size») (0 + length s) (Sized (encoding .«address_size»)) rangeKinds (numberOf code) (range-rows (encoding .«address_size») (0 + length s))))
     (λ _. bare-meets encoding endian 0 s bytes _ (Sized (encoding .«address_size»)) _ _ _ (λ b e h k. (k, (h, k))))
 
 location-entry-lawful : (split : Bool) (encoding : Encoding) (endian : RunTimeEndian) (start : ℕ) (s : List ℕ) → ((i : ℕ) → getD s i 0 < 256)
@@ -229,11 +229,11 @@ location-entry-lawful split encoding endian start s bytes =
     (λ _. bare-meets encoding endian start s bytes _ (Lawful (encoding .«address_size») (start + length s)) _ _ _ (λ b e h k. ((k, tt), λ x l. ((h, k), l))))
 
 -- for the two lists
-pub range-sized : (encoding : Encoding) (endian : RunTimeEndian) (s : List ℕ) (at : ℕ) → ((i : ℕ) → getD s i 0 < 256) → {e : RawRngListEntry} {c : ℕ}
-    → rawRange encoding endian s at ≡ gives (got (entry e) c) → Sized (encoding .«address_size») e
-range-sized encoding endian s at bytes q =
-    raw-has (Sized (encoding .«address_size»)) (rangeEntry encoding endian) s at q
-    (raw-gives (Sized (encoding .«address_size»)) (rangeEntry encoding endian) s at (λ _. range-entry-sized encoding endian (drop at s) (drop-bytes s at bytes)))
+pub range-sized : (numberOf : ℕ → ℕ) (encoding : Encoding) (endian : RunTimeEndian) (s : List ℕ) (at : ℕ) → ((i : ℕ) → getD s i 0 < 256) → {e : RawRngListEntry} {c : ℕ}
+    → rawRangeBy numberOf encoding endian s at ≡ gives (got (entry e) c) → Sized (encoding .«address_size») e
+range-sized numberOf encoding endian s at bytes q =
+    raw-has (Sized (encoding .«address_size»)) (rangeEntryBy numberOf encoding endian) s at q
+    (raw-gives (Sized (encoding .«address_size»)) (rangeEntryBy numberOf encoding endian) s at (λ _. range-entry-sized numberOf encoding endian (drop at s) (drop-bytes s at bytes)))
 
 location-lawful : (split : Bool) (encoding : Encoding) (endian : RunTimeEndian) (s : List ℕ) (at : ℕ) → ((i : ℕ) → getD s i 0 < 256) → {e : RawLocListEntry} {c : ℕ}
     → rawLocation split encoding endian s at ≡ gives (got (entry e) c) → Lawful (encoding .«address_size») (length s) e

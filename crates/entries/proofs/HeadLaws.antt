@@ -29,7 +29,8 @@ use Rattle.entries.specs.declared.RawLocListEntry.the-variants as loc
 use Rattle.entries.specs.declared.raw.Head.{Head}
 use Rattle.entries.specs.declared.raw.Head.the-variants as head
 use Rattle.entries.specs.Forms.{expression, addrIndex, indexed, operand, operands, Raw, stop, entry}
-use Rattle.entries.specs.Kinds.{unknown, locationKinds, kindOf, ofKind, codedLocation, rangeEntry, locationEntry, moved}
+use Rattle.entries.specs.Kinds.{unknown, locationKinds, kindOf, ofKind, codedLocation, rangeEntryBy, locationEntry, moved}
+use Rattle.entries.specs.Numbers.{Coding}
 use Rattle.entries.specs.Told.{Step, found, ended, stepOf, toldExpression}
 use Rattle.entries.specs.Listed.{noExpression, entryIn, readIn, stepIn}
 use Rattle.entries.specs.Heads.{locatedBy, locatedAs, headedIn, headed, formsIn, pairIn, bareIn, Within, refusedHead, numberPair, startxLength}
@@ -205,30 +206,30 @@ module _ (encoding : Encoding) (endian : RunTimeEndian) (start : ℕ) (s : List 
         → t ≡ stepOf (moved start (locationEntry split encoding endian start s))
     location-step t g = sym (step-same t) ∙ g ∙ moved-alike start (headedIn true encoding endian start s h) (locationEntry split encoding endian start s) (f start)
 
-  module _ (v : encoding .version < 5) (f : (l : Bool) (start : ℕ) → stepOf (headedIn l encoding endian start s h) ≡ stepOf (bareIn l encoding endian start s)) where
-    range-alike : stepOf (headedIn false encoding endian start s h) ≡ stepOf (rangeEntry encoding endian s)
-    range-alike = ap stepOf (head-anywhere encoding endian start 0 s h) ∙ f false 0 ∙ ap stepOf (sym (range-bare encoding endian s v))
+  module _ (numberOf : ℕ → ℕ) (v : encoding .version < 5) (f : (l : Bool) (start : ℕ) → stepOf (headedIn l encoding endian start s h) ≡ stepOf (bareIn l encoding endian start s)) where
+    range-alike : stepOf (headedIn false encoding endian start s h) ≡ stepOf (rangeEntryBy numberOf encoding endian s)
+    range-alike = ap stepOf (head-anywhere encoding endian start 0 s h) ∙ f false 0 ∙ ap stepOf (sym (range-bare encoding endian s numberOf v))
 
     pub range-within : Within (length s) (headedIn false encoding endian start s h)
-    range-within = within s (headedIn false encoding endian start s h) (rangeEntry encoding endian s) range-alike (range-entry-took encoding endian s s)
+    range-within = within s (headedIn false encoding endian start s h) (rangeEntryBy numberOf encoding endian s) range-alike (range-entry-took numberOf encoding endian s s)
 
     pub range-step : {t : Result (Step RawRngListEntry)} → t ≡ stepOf (moved start (headedIn false encoding endian start s h))
-        → t ≡ stepOf (moved start (rangeEntry encoding endian s))
-    range-step g = g ∙ moved-alike start (headedIn false encoding endian start s h) (rangeEntry encoding endian s) range-alike
+        → t ≡ stepOf (moved start (rangeEntryBy numberOf encoding endian s))
+    range-step g = g ∙ moved-alike start (headedIn false encoding endian start s h) (rangeEntryBy numberOf encoding endian s) range-alike
 
 -- the list's answer at a place of the section
-module _ (split : Bool) (encoding : Encoding) (endian : RunTimeEndian) (s : List ℕ) (at : ℕ) where
-  pub in-end : (l : Bool) → length s ≤ at → gives ended ≡ stepOf (readIn l split encoding endian s at)
+module _ (coding : Coding) (encoding : Encoding) (endian : RunTimeEndian) (s : List ℕ) (at : ℕ) where
+  pub in-end : (l : Bool) → length s ≤ at → gives ended ≡ stepOf (readIn l coding encoding endian s at)
   in-end true h = ap stepOf (sym (raw-end _ s at h))
   in-end false h = ap stepOf (sym (raw-end _ s at h))
 
   module _ (h : at < length s) (t : Result (Step RawLocListEntry)) where
-    pub in-locations : (l : Bool) → l ≡ true → t ≡ stepOf (moved at (locationEntry split encoding endian at (take (length s - at) (drop at s))))
-        → stepIn l t ≡ stepOf (readIn l split encoding endian s at)
-    in-locations true k f = step-same t ∙ raw-from (locationEntry split encoding endian at) s at h f
+    pub in-locations : (l : Bool) → l ≡ true → t ≡ stepOf (moved at (locationEntry (coding .split) encoding endian at (take (length s - at) (drop at s))))
+        → stepIn l t ≡ stepOf (readIn l coding encoding endian s at)
+    in-locations true k f = step-same t ∙ raw-from (locationEntry (coding .split) encoding endian at) s at h f
     in-locations false k f = let o : _≡_ {A = ℕ} 0 1 = cc in absurd (omega arith)
 
-    pub in-ranges : (l : Bool) → l ≡ false → stepIn false t ≡ stepOf (moved at (rangeEntry encoding endian (take (length s - at) (drop at s))))
-        → stepIn l t ≡ stepOf (readIn l split encoding endian s at)
-    in-ranges false k f = raw-from (rangeEntry encoding endian) s at h f
+    pub in-ranges : (l : Bool) → l ≡ false → stepIn false t ≡ stepOf (moved at (rangeEntryBy (coding .number) encoding endian (take (length s - at) (drop at s))))
+        → stepIn l t ≡ stepOf (readIn l coding encoding endian s at)
+    in-ranges false k f = raw-from (rangeEntryBy (coding .number) encoding endian) s at h f
     in-ranges true k f = let o : _≡_ {A = ℕ} 0 1 = cc in absurd (omega arith)

@@ -19,7 +19,7 @@ use Rattle.bytes.specs.declared.Num.{Num}
 use Rattle.bytes.specs.declared.Num.the-variants as num
 use Rattle.entries.specs.Forms.{Form, address, number, Takes, Raw, stop, entry, operands}
 use Rattle.entries.specs.declared.RawRngListEntry.the-variants.{StartLength}
-use Rattle.entries.specs.Kinds.{Kind, unknown, rangeKinds, locationKinds, kindOf, ofKind, coded, isEnd, ofPair, bare, codedRange, bareRange, hasKinds, codedLocation, bareLocation, rangeEntry, locationEntry, moved, rawAt}
+use Rattle.entries.specs.Kinds.{Kind, unknown, rangeKinds, locationKinds, kindOf, ofKind, coded, isEnd, ofPair, bare, codedRangeBy, codedRange, bareRange, hasKinds, codedLocation, bareLocation, rangeEntryBy, locationEntry, moved, rawAt}
 
 -- the code's byte, and the kind that it stands for
 module _ {E : Type 0} (encoding : Encoding) (endian : RunTimeEndian) (start : ℕ) (s : List ℕ) (unknownEntry : ℕ → Error) (kinds : ℕ → Kind E) {r : Num} (h : told r ≡ uint Little 1 s 0) where
@@ -30,6 +30,10 @@ module _ {E : Type 0} (encoding : Encoding) (endian : RunTimeEndian) (start : �
   pub code-is : {code c : ℕ} (k : ℕ) → r ≡ num.Got code c → code ≡ k → coded encoding endian start s unknownEntry kinds ≡ ofKind encoding endian start s unknownEntry k (kinds k) c
   unfolding coded
   code-is k q e = rw (← h, q, e)
+
+  pub number-is : {code c : ℕ} (k : Kind E) → r ≡ num.Got code c → kinds code ≡ k → coded encoding endian start s unknownEntry kinds ≡ ofKind encoding endian start s unknownEntry code k c
+  unfolding coded
+  number-is k q e = rw (← h, q, e)
 
   pub code-unknown : {code c : ℕ} → r ≡ num.Got code c → kinds code ≡ unknown → coded encoding endian start s unknownEntry kinds ≡ refusal (unknownEntry code)
   unfolding coded
@@ -87,15 +91,15 @@ module _ {E : Type 0} (encoding : Encoding) (endian : RunTimeEndian) (start : �
         unfolding ofPair
         pair-offsets u = pair-is ∙ simp (t, ne-eqb b (ones (encoding .«address_size»)) (λ v. u (v ∙ sym o)))
 
--- where the list's form is chosen
+-- where the list's form is chosen; bare pairs have no codes
 module _ (encoding : Encoding) (endian : RunTimeEndian) (s : List ℕ) where
-  pub range-coded : 5 ≤ encoding .version → rangeEntry encoding endian s ≡ codedRange encoding endian s
-  unfolding rangeEntry
-  range-coded v = simp (le-leb _ _ v)
+  pub range-coded : (numberOf : ℕ → ℕ) → 5 ≤ encoding .version → rangeEntryBy numberOf encoding endian s ≡ codedRangeBy numberOf encoding endian s
+  unfolding rangeEntryBy
+  range-coded numberOf v = simp (le-leb _ _ v)
 
-  pub range-bare : encoding .version < 5 → rangeEntry encoding endian s ≡ bareRange encoding endian s
-  unfolding rangeEntry
-  range-bare v = simp (lt-leb _ _ v)
+  pub range-bare : (numberOf : ℕ → ℕ) → encoding .version < 5 → rangeEntryBy numberOf encoding endian s ≡ bareRange encoding endian s
+  unfolding rangeEntryBy
+  range-bare numberOf v = simp (lt-leb _ _ v)
 
   module _ (start : ℕ) (split : Bool) where
     pub location-coded : hasKinds split (encoding .version) ≡ true → locationEntry split encoding endian start s ≡ codedLocation encoding endian start s

@@ -5,6 +5,10 @@ pub mod EntryTook
 pub mod StepLaws
 pub mod MovedLaws
 pub mod EntryValues
+pub mod NumberLaws
+pub mod TableLaws
+pub mod LoadedLaws
 pub mod HeadLaws
 pub mod PaddedLaws
 pub mod PaddedTook
+pub mod NumberedLaws

@@ -31,7 +31,8 @@ use Rattle.bytes.proofs.Took.{pick-ind}
 use Rattle.bytes.proofs.WrittenLaws.{shortest, few-bytes}
 use Rattle.entries.proofs.StepLaws.{step-found}
 use Rattle.entries.specs.Forms.{Form, index, number, rangeLength, address, expression, Value, Takes, Raw, stop, entry, versionedLength, block, operand, operands, isUnsigned}
-use Rattle.entries.specs.Kinds.{Kind, endOfList, unknown, kind, Row, row, kindOf, rangeKinds, locationKinds, ofKind, coded, isEnd, ofPair, bare, hasKinds, codedRange, codedLocation, bareRange, bareLocation, rangeEntry, locationEntry, moved, rawAt}
+use Rattle.entries.specs.Kinds.{Kind, endOfList, unknown, kind, Row, row, kindOf, rangeKinds, locationKinds, ofKind, coded, isEnd, ofPair, bare, hasKinds, numbered, codedRangeBy, codedLocation, bareRange, bareLocation, rangeEntryBy, locationEntry, moved, rawAt}
+use Rattle.entries.specs.Numbers.{Coding}
 use Rattle.entries.specs.Listed.{EntryIn, readIn}
 use Rattle.entries.specs.Told.{Step, found, ended, stepOf}
 use Rattle.entries.specs.Padded.{Noted, ifRead, paddedAt, somePadded, kindPadded, codedPadded, rangePart, locationPart, paddedIn, noted, notedStepIn}
@@ -329,14 +330,14 @@ module _ (encoding : Encoding) (endian : RunTimeEndian) where
   )
 
   -- the entry at the front of a part
-  pub range-longer : (s : List ℕ) {e : RawRngListEntry} {n : ℕ} → rangeEntry encoding endian s ≡ gives (got (entry e) n)
-      → rangePart encoding endian s ≡ rangeLonger encoding e n
-  unfolding rangeEntry rangePart
-  range-longer s {e} {n} g = by (hasKinds false (encoding .version)) g
+  pub range-longer : (numberOf : ℕ → ℕ) (s : List ℕ) {e : RawRngListEntry} {n : ℕ} → rangeEntryBy numberOf encoding endian s ≡ gives (got (entry e) n)
+      → rangePart numberOf encoding endian s ≡ rangeLonger encoding e n
+  unfolding rangeEntryBy rangePart
+  range-longer numberOf s {e} {n} g = by (hasKinds false (encoding .version)) g
     where
-      by : (t : Bool) → pick t (codedRange encoding endian s) (bareRange encoding endian s) ≡ gives (got (entry e) n)
-          → (t && codedPadded encoding endian 0 s (kindOf rangeKinds)) ≡ rangeLonger encoding e n
-      by true f = coded-longer encoding endian 0 s (rangeLonger encoding) UnknownRangeListsEntry (kindOf rangeKinds) (kind-all _ rangeKinds (range-rows s)) f
+      by : (t : Bool) → pick t (codedRangeBy numberOf encoding endian s) (bareRange encoding endian s) ≡ gives (got (entry e) n)
+          → (t && codedPadded encoding endian 0 s (numbered numberOf)) ≡ rangeLonger encoding e n
+      by true f = coded-longer encoding endian 0 s (rangeLonger encoding) UnknownRangeListsEntry (numbered numberOf) (λ code. kind-all _ rangeKinds (range-rows s) (numberOf code)) f
       by false f =
           sym (subst (NeverIn encoding endian 0 s (rangeLonger encoding)) f
           (bare-never encoding endian 0 s (rangeLonger encoding) rng.BaseAddress [] rng.AddressOrOffsetPair (λ a n. refl) (λ b e n. refl)) n)
@@ -374,12 +375,12 @@ raw-part read s at {e} {c} g = by (leb (length s) at) g
     by false f = subst (Fronted at (read (drop at s))) f (fronted at (read (drop at s)))
 
 -- the entry at a place of a section
-pub padded-longer : (l split : Bool) (encoding : Encoding) (endian : RunTimeEndian) (s : List ℕ) (at : ℕ) {e : EntryIn l} {c : ℕ} → readIn l split encoding endian s at ≡ gives (got (entry e) c)
-    → (at ≤ c) × (paddedIn l split encoding endian s at ≡ longerIn l encoding e (c - at))
-padded-longer true split encoding endian s at g =
-    let (h, q) = raw-part (locationEntry split encoding endian at) s at g in (h, location-longer encoding endian split at (drop at s) q)
-padded-longer false split encoding endian s at g =
-    let (h, q) = raw-part (rangeEntry encoding endian) s at g in (h, range-longer encoding endian (drop at s) q)
+pub padded-longer : (l : Bool) (coding : Coding) (encoding : Encoding) (endian : RunTimeEndian) (s : List ℕ) (at : ℕ) {e : EntryIn l} {c : ℕ} → readIn l coding encoding endian s at ≡ gives (got (entry e) c)
+    → (at ≤ c) × (paddedIn l coding encoding endian s at ≡ longerIn l encoding e (c - at))
+padded-longer true coding encoding endian s at g =
+    let (h, q) = raw-part (locationEntry (coding .split) encoding endian at) s at g in (h, location-longer encoding endian (coding .split) at (drop at s) q)
+padded-longer false coding encoding endian s at g =
+    let (h, q) = raw-part (rangeEntryBy (coding .number) encoding endian) s at g in (h, range-longer encoding endian (coding .number) (drop at s) q)
 
 -- an answer of the code with its padding
 module _ {E : Type 0} (p : Bool) where
@@ -397,9 +398,9 @@ noted-same (gives (found x c)) = refl
 noted-same (gives ended) = refl
 noted-same (refused n vs) = refl
 
-pub step-padded : (l split : Bool) (encoding : Encoding) (endian : RunTimeEndian) (s : List ℕ) (at : ℕ) {e : EntryIn l} {c : ℕ} → gives (found e c) ≡ stepOf (readIn l split encoding endian s at)
-    → (at ≤ c) × (paddedIn l split encoding endian s at ≡ longerIn l encoding e (c - at))
-step-padded l split encoding endian s at h = padded-longer l split encoding endian s at (step-found (readIn l split encoding endian s at) h)
+pub step-padded : (l : Bool) (coding : Coding) (encoding : Encoding) (endian : RunTimeEndian) (s : List ℕ) (at : ℕ) {e : EntryIn l} {c : ℕ} → gives (found e c) ≡ stepOf (readIn l coding encoding endian s at)
+    → (at ≤ c) × (paddedIn l coding encoding endian s at ≡ longerIn l encoding e (c - at))
+step-padded l coding encoding endian s at h = padded-longer l coding encoding endian s at (step-found (readIn l coding encoding endian s at) h)
 
 -- a length, and how many bytes it can have
 pub length-unsigned : (version fixed n : ℕ) {r : ℕ} → 5 ≤ version → r ≡ length (unsignedBytes n) → (r ≡ leastLength (leb 5 version) fixed n) × (r ≤ 10 + fixed)

@@ -15,7 +15,8 @@ use Rattle.bytes.specs.declared.endianity.RunTimeEndian.{RunTimeEndian}
 use Rattle.bytes.specs.declared.endianity.RunTimeEndian.the-variants.{Little}
 use Rattle.bytes.proofs.Took.{Stands, Took}
 use Rattle.entries.specs.Forms.{Form, index, number, rangeLength, address, expression, entry, versionedLength, expressionAt, block, operand, isUnsigned}
-use Rattle.entries.specs.Kinds.{Kind, endOfList, unknown, kind, kindOf, locationKinds, hasKinds, rangeEntry, locationEntry}
+use Rattle.entries.specs.Kinds.{Kind, endOfList, unknown, kind, kindOf, locationKinds, hasKinds, rangeEntryBy, locationEntry}
+use Rattle.entries.specs.Numbers.{Coding}
 use Rattle.entries.specs.Listed.{EntryIn, readIn}
 use Rattle.entries.specs.Padded.{ifRead, paddedAt, somePadded, kindPadded, codedPadded, rangePart, locationPart, paddedIn, PaddedByEntry}
 use Rattle.entries.proofs.EntryTook.{range-entry-took, location-entry-took}
@@ -72,10 +73,11 @@ module _ (encoding : Encoding) (endian : RunTimeEndian) (s t : List ℕ) (n : �
   again : {A : Type 0} (r q : Read A) {v : A} → Took 1 0 s t r q → r ≡ gives (got v n) → q ≡ gives (got v n)
   again r q k f = let j = rw f at k in j .2 (same-front n s t (j .1) e)
 
-  range-front : {x : EntryIn false} → rangeEntry encoding endian s ≡ gives (got (entry x) n) → rangePart encoding endian t ≡ rangePart encoding endian s
-  range-front g =
-      range-longer encoding endian t (again (rangeEntry encoding endian s) (rangeEntry encoding endian t) (range-entry-took encoding endian s t) g)
-      ∙ sym (range-longer encoding endian s g)
+  range-front : (numberOf : ℕ → ℕ) {x : EntryIn false} → rangeEntryBy numberOf encoding endian s ≡ gives (got (entry x) n)
+      → rangePart numberOf encoding endian t ≡ rangePart numberOf encoding endian s
+  range-front numberOf g =
+      range-longer encoding endian numberOf t (again (rangeEntryBy numberOf encoding endian s) (rangeEntryBy numberOf encoding endian t) (range-entry-took numberOf encoding endian s t) g)
+      ∙ sym (range-longer encoding endian numberOf s g)
 
   location-front : (split : Bool) (start : ℕ) {x : EntryIn true} → locationEntry split encoding endian start s ≡ gives (got (entry x) n)
       → locationPart split encoding endian start t ≡ locationPart split encoding endian start s
@@ -84,18 +86,18 @@ module _ (encoding : Encoding) (endian : RunTimeEndian) (s t : List ℕ) (n : �
       (again (locationEntry split encoding endian start s) (locationEntry split encoding endian start t) (location-entry-took split encoding endian start s t) g)
       ∙ sym (location-longer encoding endian split start s g)
 
-by-bytes : (l split : Bool) (encoding : Encoding) (endian : RunTimeEndian) (s t : List ℕ) (at to : ℕ) {e : EntryIn l} {c : ℕ}
-    → readIn l split encoding endian s at ≡ gives (got (entry e) c) → take (c - at) (drop at s) ≡ take (c - at) (drop to t)
-    → paddedIn l split encoding endian t to ≡ paddedIn l split encoding endian s at
-by-bytes true split encoding endian s t at to {c = c} g q =
-    part-start encoding endian (drop to t) to at split
-    ∙ location-front encoding endian (drop at s) (drop to t) (c - at) q split at (raw-part (locationEntry split encoding endian at) s at g .1)
-by-bytes false split encoding endian s t at to {c = c} g q =
-    range-front encoding endian (drop at s) (drop to t) (c - at) q (raw-part (rangeEntry encoding endian) s at g .1)
+by-bytes : (l : Bool) (coding : Coding) (encoding : Encoding) (endian : RunTimeEndian) (s t : List ℕ) (at to : ℕ) {e : EntryIn l} {c : ℕ}
+    → readIn l coding encoding endian s at ≡ gives (got (entry e) c) → take (c - at) (drop at s) ≡ take (c - at) (drop to t)
+    → paddedIn l coding encoding endian t to ≡ paddedIn l coding encoding endian s at
+by-bytes true coding encoding endian s t at to {c = c} g q =
+    part-start encoding endian (drop to t) to at (coding .split)
+    ∙ location-front encoding endian (drop at s) (drop to t) (c - at) q (coding .split) at (raw-part (locationEntry (coding .split) encoding endian at) s at g .1)
+by-bytes false coding encoding endian s t at to {c = c} g q =
+    range-front encoding endian (drop at s) (drop to t) (c - at) q (coding .number) (raw-part (rangeEntryBy (coding .number) encoding endian) s at g .1)
 
 pub padded-by-entry : PaddedByEntry
 padded-by-entry =
     record {
-      by-length = λ l split encoding endian s at g. padded-longer l split encoding endian s at g .1;
-      by-bytes = λ l split encoding endian s t at to g q. by-bytes l split encoding endian s t at to g q;
+      by-length = λ l coding encoding endian s at g. padded-longer l coding encoding endian s at g .1;
+      by-bytes = λ l coding encoding endian s t at to g q. by-bytes l coding encoding endian s t at to g q;
     }

@@ -13,6 +13,7 @@ use Rattle.bytes.specs.declared.endianity.RunTimeEndian.{RunTimeEndian}
 use Rattle.bytes.specs.declared.endianity.RunTimeEndian.the-variants.{Little}
 use Rattle.bytes.specs.declared.error.Error.{Error}
 use Rattle.bytes.specs.declared.error.Error.the-variants.{UnknownRangeListsEntry, UnknownLocListsEntry}
+use Rattle.entries.specs.Numbers.{itself}
 use Rattle.entries.specs.Forms.{Form, index, number, rangeLength, address, expression, Takes, Raw, stop, entry, operand, operands}
 use Rattle.entries.specs.declared.RawRngListEntry.{RawRngListEntry}
 use Rattle.entries.specs.declared.RawRngListEntry.the-variants as rng
@@ -88,9 +89,16 @@ bare encoding endian start s base fs pair =
     readThen (operand encoding endian start s address 0) (λ b c.
     readThen (operand encoding endian start s address c) (λ e d. ofPair encoding endian start s base fs pair b e d))
 
+-- the kind of a range list's code, by the number that it has
+abbrev pub numbered : (ℕ → ℕ) → ℕ → Kind RawRngListEntry
+numbered numberOf code = kindOf rangeKinds (numberOf code)
+
 -- ranges have no operand that speaks of the section, so their part may start anywhere
+abbrev pub codedRangeBy : (ℕ → ℕ) → Encoding → RunTimeEndian → List ℕ → Read (Raw RawRngListEntry)
+codedRangeBy numberOf encoding endian s = coded encoding endian 0 s UnknownRangeListsEntry (numbered numberOf)
+
 abbrev pub codedRange : Encoding → RunTimeEndian → List ℕ → Read (Raw RawRngListEntry)
-codedRange encoding endian s = coded encoding endian 0 s UnknownRangeListsEntry (kindOf rangeKinds)
+codedRange encoding endian s = codedRangeBy itself encoding endian s
 
 abbrev pub bareRange : Encoding → RunTimeEndian → List ℕ → Read (Raw RawRngListEntry)
 bareRange encoding endian s = bare encoding endian 0 s rng.BaseAddress [] rng.AddressOrOffsetPair
@@ -106,8 +114,12 @@ abbrev pub hasKinds : Bool → ℕ → Bool
 hasKinds split version = split || leb 5 version
 
 -- the entry at the front of a part: of a kind, or a bare pair. Range lists are read as in files that are not split
-unfoldable pub rangeEntry : Encoding → RunTimeEndian → List ℕ → Read (Raw RawRngListEntry)
-rangeEntry encoding endian s = pick (hasKinds false (encoding .version)) (codedRange encoding endian s) (bareRange encoding endian s)
+unfoldable pub rangeEntryBy : (ℕ → ℕ) → Encoding → RunTimeEndian → List ℕ → Read (Raw RawRngListEntry)
+rangeEntryBy numberOf encoding endian s =
+    pick (hasKinds false (encoding .version)) (codedRangeBy numberOf encoding endian s) (bareRange encoding endian s)
+
+abbrev pub rangeEntry : Encoding → RunTimeEndian → List ℕ → Read (Raw RawRngListEntry)
+rangeEntry encoding endian s = rangeEntryBy itself encoding endian s
 
 unfoldable pub locationEntry : Bool → Encoding → RunTimeEndian → ℕ → List ℕ → Read (Raw RawLocListEntry)
 locationEntry split encoding endian start s =
@@ -122,8 +134,11 @@ unfoldable pub rawAt : {E : Type 0} → (List ℕ → Read (Raw E)) → List ℕ
 rawAt read s at = pick (leb (length s) at) (gives (got stop at)) (moved at (read (drop at s)))
 
 -- the raw entry at a place of a range list
+abbrev pub rawRangeBy : (ℕ → ℕ) → Encoding → RunTimeEndian → List ℕ → ℕ → Read (Raw RawRngListEntry)
+rawRangeBy numberOf encoding endian s at = rawAt (rangeEntryBy numberOf encoding endian) s at
+
 abbrev pub rawRange : Encoding → RunTimeEndian → List ℕ → ℕ → Read (Raw RawRngListEntry)
-rawRange encoding endian s at = rawAt (rangeEntry encoding endian) s at
+rawRange encoding endian s at = rawRangeBy itself encoding endian s at
 
 -- the raw entry at a place of a location list
 abbrev pub rawLocation : Bool → Encoding → RunTimeEndian → List ℕ → ℕ → Read (Raw RawLocListEntry)

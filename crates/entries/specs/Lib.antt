@@ -1,5 +1,7 @@
 pub mod Forms
+pub mod Numbers
 pub mod Kinds
+pub mod Loaded
 pub mod Told
 pub mod Listed
 pub mod Filled

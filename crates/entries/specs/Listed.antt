@@ -7,7 +7,8 @@ use Rattle.bytes.specs.Read.{Result, gives, refused, Read}
 use Rattle.bytes.specs.declared.common.Encoding.{Encoding}
 use Rattle.bytes.specs.declared.endianity.RunTimeEndian.{RunTimeEndian}
 use Rattle.entries.specs.Forms.{Raw}
-use Rattle.entries.specs.Kinds.{rawRange, rawLocation}
+use Rattle.entries.specs.Numbers.{Coding}
+use Rattle.entries.specs.Kinds.{rawRangeBy, rawLocation}
 use Rattle.entries.specs.Told.{Step, found, ended}
 use Rattle.entries.specs.declared.Expression.{Expression}
 use Rattle.entries.specs.declared.RawRngListEntry.{RawRngListEntry}
@@ -49,9 +50,9 @@ entryIn true e = e
 entryIn false e = bounds e
 
 -- the raw entry at a place
-abbrev pub readIn : (l : Bool) → Bool → Encoding → RunTimeEndian → List ℕ → ℕ → Read (Raw (EntryIn l))
-readIn true split encoding endian s at = rawLocation split encoding endian s at
-readIn false split encoding endian s at = rawRange encoding endian s at
+abbrev pub readIn : (l : Bool) → Coding → Encoding → RunTimeEndian → List ℕ → ℕ → Read (Raw (EntryIn l))
+readIn true coding encoding endian s at = rawLocation (coding .split) encoding endian s at
+readIn false coding encoding endian s at = rawRangeBy (coding .number) encoding endian s at
 
 abbrev pub stepIn : (l : Bool) → Result (Step RawLocListEntry) → Result (Step (EntryIn l))
 stepIn l (gives (found e c)) = gives (found (entryIn l e) c)

@@ -13,7 +13,8 @@ use Rattle.bytes.specs.declared.common.Encoding.{Encoding}
 use Rattle.bytes.specs.declared.endianity.RunTimeEndian.{RunTimeEndian}
 use Rattle.bytes.specs.declared.endianity.RunTimeEndian.the-variants.{Little}
 use Rattle.entries.specs.Forms.{Form, operand, isUnsigned, entry}
-use Rattle.entries.specs.Kinds.{Kind, endOfList, unknown, kind, kindOf, rangeKinds, locationKinds, hasKinds}
+use Rattle.entries.specs.Numbers.{Coding, itself}
+use Rattle.entries.specs.Kinds.{Kind, endOfList, unknown, kind, kindOf, locationKinds, hasKinds, numbered}
 use Rattle.entries.specs.Listed.{EntryIn, entryIn, readIn}
 use Rattle.entries.specs.Shortest.{longerIn}
 use Rattle.entries.specs.Told.{Step, found, ended}
@@ -56,23 +57,26 @@ codedPadded encoding endian start s kinds =
     ifRead (uint Little 1 s 0) (λ code c. kindPadded encoding endian start s (kinds code) c)
 
 -- the entry at the front of a part. Bare pairs have no LEB128 number, nor has what follows them up to version 4
-unfoldable pub rangePart : Encoding → RunTimeEndian → List ℕ → Bool
-rangePart encoding endian s = hasKinds false (encoding .version) && codedPadded encoding endian 0 s (kindOf rangeKinds)
+unfoldable pub rangePart : (ℕ → ℕ) → Encoding → RunTimeEndian → List ℕ → Bool
+rangePart numberOf encoding endian s = hasKinds false (encoding .version) && codedPadded encoding endian 0 s (numbered numberOf)
 
 unfoldable pub locationPart : Bool → Encoding → RunTimeEndian → ℕ → List ℕ → Bool
 locationPart split encoding endian start s =
     hasKinds split (encoding .version) && codedPadded encoding endian start s (kindOf locationKinds)
 
 -- the entry at a place of a section
+abbrev pub rangePaddedBy : (ℕ → ℕ) → Encoding → RunTimeEndian → List ℕ → ℕ → Bool
+rangePaddedBy numberOf encoding endian s at = rangePart numberOf encoding endian (drop at s)
+
 abbrev pub rangePadded : Encoding → RunTimeEndian → List ℕ → ℕ → Bool
-rangePadded encoding endian s at = rangePart encoding endian (drop at s)
+rangePadded encoding endian s at = rangePaddedBy itself encoding endian s at
 
 abbrev pub locationPadded : Bool → Encoding → RunTimeEndian → List ℕ → ℕ → Bool
 locationPadded split encoding endian s at = locationPart split encoding endian at (drop at s)
 
-abbrev pub paddedIn : Bool → Bool → Encoding → RunTimeEndian → List ℕ → ℕ → Bool
-paddedIn true split encoding endian s at = locationPadded split encoding endian s at
-paddedIn false split encoding endian s at = rangePadded encoding endian s at
+abbrev pub paddedIn : Bool → Coding → Encoding → RunTimeEndian → List ℕ → ℕ → Bool
+paddedIn true coding encoding endian s at = locationPadded (coding .split) encoding endian s at
+paddedIn false coding encoding endian s at = rangePaddedBy (coding .number) encoding endian s at
 
 -- it goes with an entry; the end and a refusal have none
 abbrev pub noted : {E : Type 0} → Bool → Result (Step E) → Result (Step (Noted E))
@@ -98,9 +102,9 @@ notedStepIn l (refused n vs) = refused n vs
 
 pub record PaddedByEntry : Type 0 where
   -- some number of an entry is padded exactly where the entry took more bytes than its kind and its values need
-  pub by-length : (l split : Bool) (encoding : Encoding) (endian : RunTimeEndian) (s : List ℕ) (at : ℕ) {e : EntryIn l} {c : ℕ}
-      → readIn l split encoding endian s at ≡ gives (got (entry e) c) → paddedIn l split encoding endian s at ≡ longerIn l encoding e (c - at)
+  pub by-length : (l : Bool) (coding : Coding) (encoding : Encoding) (endian : RunTimeEndian) (s : List ℕ) (at : ℕ) {e : EntryIn l} {c : ℕ}
+      → readIn l coding encoding endian s at ≡ gives (got (entry e) c) → paddedIn l coding encoding endian s at ≡ longerIn l encoding e (c - at)
   -- wherever the bytes that an entry took stand, in whatever section, what stands there has the same padding
-  pub by-bytes : (l split : Bool) (encoding : Encoding) (endian : RunTimeEndian) (s t : List ℕ) (at to : ℕ) {e : EntryIn l} {c : ℕ}
-      → readIn l split encoding endian s at ≡ gives (got (entry e) c) → take (c - at) (drop at s) ≡ take (c - at) (drop to t)
-      → paddedIn l split encoding endian t to ≡ paddedIn l split encoding endian s at
+  pub by-bytes : (l : Bool) (coding : Coding) (encoding : Encoding) (endian : RunTimeEndian) (s t : List ℕ) (at to : ℕ) {e : EntryIn l} {c : ℕ}
+      → readIn l coding encoding endian s at ≡ gives (got (entry e) c) → take (c - at) (drop at s) ≡ take (c - at) (drop to t)
+      → paddedIn l coding encoding endian t to ≡ paddedIn l coding encoding endian s at

@@ -38,3 +38,6 @@ pub const DW_LLE_start_length: u64 = 8;
 
 // A bare pair, which has no code in the bytes.
 pub const ADDRESS_OR_OFFSET_PAIR: u64 = 0;
+
+// What a table of kind numbers has at a code without a kind.
+pub const NO_KIND: u64 = 255;

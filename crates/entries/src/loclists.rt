@@ -134,5 +134,5 @@ pub fn raw_location_entry(
     ensures { λ r. ⌜ toldLocationStep r ≡ noted (locationPadded (isSplit «file_type») encoding endian (now (section .entry)) at) (stepOf (rawLocation (isSplit «file_type») encoding endian (now (section .entry)) at)) ⌝ }
 {
     let split = file_type.is_split();
-    super::padded::noted_entry(section, at, encoding, endian, true, split)
+    super::padded::noted_entry(section, at, encoding, endian, true, split, false, section)
 }

@@ -13,6 +13,7 @@ ghost use Prim.Native.Nat.{_+_, _≤_};
 ghost use lib.Dec.{leb, ltb};
 ghost use Rattle.entries.specs.Told.{stepOf};
 ghost use Rattle.entries.specs.Listed.{entryIn, readIn};
+ghost use Rattle.entries.specs.Numbers.{codingOf};
 ghost use Rattle.entries.specs.Padded.{paddedIn, noted, toldLocationStep, notedStepIn};
 ghost use Rattle.entries.specs.Shortest.{leastLength, rangeLonger, locationLonger, longerIn};
 
@@ -110,10 +111,21 @@ pub fn noted_entry(
     endian: RunTimeEndian,
     locations: bool,
     split: bool,
+    by_table: bool,
+    kinds: &[u8],
 ) -> RawLocationStep
-    ensures { λ r. ⌜ notedStepIn locations (toldLocationStep r) ≡ noted (paddedIn locations split encoding endian (now (section .entry)) at) (stepOf (readIn locations split encoding endian (now (section .entry)) at)) ⌝ }
+    ensures { λ r. ⌜ notedStepIn locations (toldLocationStep r) ≡ noted (paddedIn locations (codingOf split «by_table» (now (kinds .entry))) encoding endian (now (section .entry)) at) (stepOf (readIn locations (codingOf split «by_table» (now (kinds .entry))) encoding endian (now (section .entry)) at)) ⌝ }
 {
-    match super::raw::raw_entry(section, at, encoding, endian, locations, split) {
+    match super::raw::raw_entry(
+        section,
+        at,
+        encoding,
+        endian,
+        locations,
+        split,
+        by_table,
+        kinds,
+    ) {
         LocationStep::Entry(entry, c) => RawLocationStep::Entry(
             entry,
             longer(entry, c - at, encoding, locations),

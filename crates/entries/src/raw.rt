@@ -18,7 +18,8 @@ ghost use lib.ListN.{length};
 ghost use Rattle.bytes.specs.Read.{gives, got};
 ghost use Rattle.entries.specs.Told.{stepOf, toldLocation, toldExpression, passedOn};
 ghost use Rattle.entries.specs.Forms.{stop};
-ghost use Rattle.entries.specs.Kinds.{hasKinds, rangeEntry, locationEntry, moved};
+ghost use Rattle.entries.specs.Kinds.{hasKinds, rangeEntryBy, locationEntry, moved};
+ghost use Rattle.entries.specs.Numbers.{numberIn, codingOf};
 ghost use Rattle.entries.specs.Listed.{bounds, readIn, stepIn};
 ghost use Rattle.entries.specs.Heads.{locatedAs, headed, headedIn, bareIn, Within, refusedHead};
 
@@ -160,12 +161,19 @@ fn step_of(
 }
 
 // The entry at the front of a part that starts at a place of its section: kinds from version 5 on, bare pairs before.
-fn range_entry(part: &[u8], start: usize, encoding: Encoding, endian: RunTimeEndian) -> LocationStep
+fn range_entry(
+    part: &[u8],
+    start: usize,
+    encoding: Encoding,
+    endian: RunTimeEndian,
+    by_table: bool,
+    kinds: &[u8],
+) -> LocationStep
     requires { ⌜ start + length (now part) < 2 ^ 64 ⌝ }
-    ensures { λ r. ⌜ stepIn false (toldLocation r) ≡ stepOf (moved start (rangeEntry encoding endian (now (part .entry)))) ⌝ }
+    ensures { λ r. ⌜ stepIn false (toldLocation r) ≡ stepOf (moved start (rangeEntryBy (numberIn «by_table» (now (kinds .entry))) encoding endian (now (part .entry)))) ⌝ }
 {
     if 5 <= encoding.version {
-        return super::rnglists::coded_range(part, start, encoding, endian);
+        return super::rnglists::coded_range(part, start, encoding, endian, by_table, kinds);
     }
     let head = bare_head(part, encoding, endian);
     step_of(head, part, start, encoding, endian, false)
@@ -196,8 +204,10 @@ pub fn raw_entry(
     endian: RunTimeEndian,
     locations: bool,
     split: bool,
+    by_table: bool,
+    kinds: &[u8],
 ) -> LocationStep
-    ensures { λ r. ⌜ stepIn locations (toldLocation r) ≡ stepOf (readIn locations split encoding endian (now (section .entry)) at) ⌝ }
+    ensures { λ r. ⌜ stepIn locations (toldLocation r) ≡ stepOf (readIn locations (codingOf split «by_table» (now (kinds .entry))) encoding endian (now (section .entry)) at) ⌝ }
 {
     if section.len() <= at {
         return LocationStep::End;
@@ -205,7 +215,7 @@ pub fn raw_entry(
     if locations {
         return location_entry(&section[at..], at, encoding, endian, split);
     }
-    range_entry(&section[at..], at, encoding, endian)
+    range_entry(&section[at..], at, encoding, endian, by_table, kinds)
 }
 
 // The bounds of a location as a range entry. A default location spans all 64-bit addresses.

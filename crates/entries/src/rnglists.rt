@@ -19,7 +19,8 @@ ghost use Rattle.bytes.specs.Error.{told};
 ghost use Rattle.entries.specs.Told.{stepOf, toldLocation, passedOn};
 ghost use Rattle.entries.specs.Listed.{stepIn};
 ghost use Rattle.entries.specs.Forms.{stop};
-ghost use Rattle.entries.specs.Kinds.{codedRange, moved, rawRange};
+ghost use Rattle.entries.specs.Kinds.{codedRangeBy, moved, rawRange};
+ghost use Rattle.entries.specs.Numbers.{numberIn};
 ghost use Rattle.entries.specs.Padded.{noted, toldRangeStep, rangePadded};
 
 // A refusal of an operand passed on.
@@ -39,16 +40,19 @@ pub(crate) fn coded_range(
     start: usize,
     encoding: Encoding,
     endian: RunTimeEndian,
+    by_table: bool,
+    kinds: &[u8],
 ) -> LocationStep
     requires { ⌜ start + length (now part) < 2 ^ 64 ⌝ }
-    ensures { λ r. ⌜ stepIn false (toldLocation r) ≡ stepOf (moved start (codedRange encoding endian (now (part .entry)))) ⌝ }
+    ensures { λ r. ⌜ stepIn false (toldLocation r) ≡ stepOf (moved start (codedRangeBy (numberIn «by_table» (now (kinds .entry))) encoding endian (now (part .entry)))) ⌝ }
 {
     let size = encoding.address_size;
     let r = bytes::reader::read_u8(part, 0);
     let Num::Got(code, c) = r else {
         return passed(r);
     };
-    match code {
+    let number = super::kinds::kind_number(code, by_table, kinds);
+    match number {
         constants::DW_RLE_end_of_list => LocationStep::End,
         constants::DW_RLE_base_addressx => {
             let r1 = bytes::leb128::unsigned(part, c);
@@ -159,7 +163,7 @@ pub fn raw_range_entry(
 ) -> RawRangeStep
     ensures { λ r. ⌜ toldRangeStep r ≡ noted (rangePadded encoding endian (now (section .entry)) at) (stepOf (rawRange encoding endian (now (section .entry)) at)) ⌝ }
 {
-    match super::padded::noted_entry(section, at, encoding, endian, false, false) {
+    match super::padded::noted_entry(section, at, encoding, endian, false, false, false, section) {
         RawLocationStep::Entry(e, padded, c) => RawRangeStep::Entry(
             super::raw::bounds_of(e),
             padded,

@@ -4,7 +4,7 @@ use Prim.Native.Nat.{ℕ}
 use mathlib.Core.List.{List}
 use Rattle.entries.specs.declared.RawRngListEntry.{RawRngListEntry}
 use Rattle.entries.specs.declared.RawLocListEntry.{RawLocListEntry}
-use Rattle.lists.specs.Walk.{nextRange, notedRange, nextLocation, notedLocation}
+use Rattle.lists.specs.Walk.{nextRange, notedRange, nextRangeBy, notedRangeBy, nextLocation, notedLocation}
 use Rattle.marks.specs.Steps.{Reading}
 use Rattle.ffi_words.specs.Common.{endianIn, encodingOf, Left}
 use Rattle.ffi_words.specs.Entries.{RawTold, rawRangeNext, rawLocationNext, convertRange, convertLocation}
@@ -18,10 +18,12 @@ use Rattle.ffi_words.specs.declared.ranges.YzRange.{YzRange}
 use Rattle.ffi_words.specs.declared.ranges.YzRangeEntry.{YzRangeEntry}
 use Rattle.ffi_marks.specs.Marks.{Held, held, heldOut}
 
--- by section, address table, its base, encoding and entry
+-- by section, address table, its base, encoding, table of kind numbers and entry
 pub data Call : Type 0 where
   range-next : List ℕ → List ℕ → ℕ → YzEncoding → Call
   range-next-raw : List ℕ → YzEncoding → Call
+  range-next-by : List ℕ → List ℕ → ℕ → YzEncoding → List ℕ → Call
+  range-next-raw-by : List ℕ → YzEncoding → List ℕ → Call
   range-convert-raw : List ℕ → ℕ → YzEncoding → YzRangeEntry → Call
   location-next : List ℕ → List ℕ → ℕ → YzEncoding → Call
   location-next-raw : List ℕ → YzEncoding → Call
@@ -38,6 +40,9 @@ abbrev pub answered : Call → List ℕ → Answer
 answered (range-next s table tableBase e) ws =
     range (rangeNext ws (nextRange (encodingOf e) (endianIn e) s table (record { 0 = tableBase }) (walkIn ws)))
 answered (range-next-raw s e) ws = raw-range (rawRangeNext ws (notedRange (encodingOf e) (endianIn e) s (walkIn ws)))
+answered (range-next-by s table tableBase e kinds) ws =
+    range (rangeNext ws (nextRangeBy kinds (encodingOf e) (endianIn e) s table (record { 0 = tableBase }) (walkIn ws)))
+answered (range-next-raw-by s e kinds) ws = raw-range (rawRangeNext ws (notedRangeBy kinds (encodingOf e) (endianIn e) s (walkIn ws)))
 answered (range-convert-raw table tableBase e x) ws =
     range (rangeOutcome ws (convertRange (encodingOf e) (endianIn e) table (record { 0 = tableBase }) (walkIn ws) x))
 answered (location-next s table tableBase e) ws =

@@ -5,7 +5,7 @@ use mathlib.Core.List.{List}
 use lib.Dec.{eqb}
 use lib.ListN.{getD}
 use Rattle.bytes.specs.Error.{refusal}
-use Rattle.bytes.specs.Read.{pick}
+use Rattle.bytes.specs.Read.{Result, gives, refused, pick}
 use Rattle.bytes.specs.declared.common.DwarfFileType.{DwarfFileType}
 use Rattle.bytes.specs.declared.common.DwarfFileType.the-variants.{Main, Dwo}
 use Rattle.bytes.specs.declared.common.Encoding.{Encoding}
@@ -88,6 +88,11 @@ notThere = comesTo 3
 -- by its number, with its value, 0 where it has none
 abbrev pub refusedBy : ℕ → List ℕ → YzDone
 refusedBy n vs = record { result = 4; refusal = n; «refusal_value» = getD vs 0 0 }
+
+-- what a call answers that gives nothing
+abbrev pub doneOrRefused : Result Unit → YzDone
+doneOrRefused (gives x) = done
+doneOrRefused (refused n vs) = refusedBy n vs
 
 -- an answer, and what the call leaves in the words or bytes that it is lent
 pub record Left (A : Type 0) : Type 0 where

@@ -18,9 +18,10 @@ use Rattle.bytes.proofs.Order.{lt-or-le}
 use Rattle.bytes.proofs.Took.{pick-ind}
 use Rattle.tables.specs.Next.{Next, ends, hands}
 use Rattle.entries.specs.Forms.{Raw, stop, entry}
+use Rattle.entries.specs.Numbers.{Coding, dwarf, tabled}
 use Rattle.lists.specs.Open.{walkAt, oneMore, movedTo, readTo, rebased, opened}
 use Rattle.lists.specs.Convert.{Turn, range, rebase, skip, convert}
-use Rattle.lists.specs.Walk.{Listing, listed, ranges, locations, item, Trace, over, handed, onTurn, onRead, traceFrom, trace, first, next, onRaw, nextRaw, outcome, convertRaw}
+use Rattle.lists.specs.Walk.{Listing, listed, ranges, rangesBy, locations, item, Trace, over, handed, onTurn, onRead, traceFrom, trace, first, next, onRaw, nextRaw, outcome, convertRaw}
 use Rattle.lists.specs.Counted.{onEntry, entriesFrom, entriesBefore, leftBy, leftAfter, Reached, by-opening, by-next, by-next-raw, by-convert-raw, Counted}
 use Rattle.lists.specs.Uncounted.{uncounted, traceUncounted, callUncounted, outcomeUncounted, onReadBefore, traceFromBefore, traceBefore, nextBefore, onRawBefore, nextRawBefore, UncountedAsBefore}
 use Rattle.lists.specs.declared.Walk.{Walk}
@@ -289,11 +290,14 @@ uncounted-as-before = record { walk = trace-uncounted; call = next-uncounted; ra
 
 -- for the two lists
 module _ (encoding : Encoding) (endian : RunTimeEndian) (s : List ℕ) (offset : ℕ) where
-  pub listed-counted : (l split : Bool) → Counted encoding s (listed l split encoding endian s) offset
-  listed-counted l split = counted-of encoding s (listed l split encoding endian s) offset (listed-past l split encoding endian s)
+  pub listed-counted : (l : Bool) (coding : Coding) → Counted encoding s (listed l coding encoding endian s) offset
+  listed-counted l coding = counted-of encoding s (listed l coding encoding endian s) offset (listed-past l coding encoding endian s)
 
   pub ranges-counted : Counted encoding s (ranges encoding endian s) offset
-  ranges-counted = listed-counted false false
+  ranges-counted = listed-counted false (dwarf false)
+
+  pub ranges-by-counted : (kinds : List ℕ) → Counted encoding s (rangesBy kinds encoding endian s) offset
+  ranges-by-counted kinds = listed-counted false (tabled kinds)
 
   pub locations-counted : (split : Bool) → Counted encoding s (locations split encoding endian s) offset
-  locations-counted split = listed-counted true split
+  locations-counted split = listed-counted true (dwarf split)

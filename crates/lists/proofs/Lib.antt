@@ -10,3 +10,4 @@ pub mod Local
 pub mod SizeLaws
 pub mod CountLaws
 pub mod RisenLaws
+pub mod RenumberedLaws

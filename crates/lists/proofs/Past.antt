@@ -10,24 +10,25 @@ use Rattle.bytes.specs.Read.{gives, refused, got, Read}
 use Rattle.bytes.specs.declared.common.Encoding.{Encoding}
 use Rattle.bytes.specs.declared.endianity.RunTimeEndian.{RunTimeEndian}
 use Rattle.bytes.proofs.Took.{Agree, Took}
-use Rattle.entries.specs.Kinds.{rangeEntry, locationEntry}
+use Rattle.entries.specs.Kinds.{rangeEntryBy, locationEntry}
 use Rattle.entries.specs.Listed.{readIn}
 use Rattle.entries.proofs.EntryTook.{range-took, location-took, raw-same}
+use Rattle.entries.specs.Numbers.{Coding}
 use Rattle.lists.proofs.WalkLaws.{Moved}
 
 moved-of : {A : Type 0} (s : List ℕ) (at : ℕ) (r : Read A) → Took (at + 1) at s s r r → Moved at (length s) r
 moved-of s at (gives (got v c)) h = (omega arith, h .1)
 moved-of s at (refused n vs) h = tt
 
-pub listed-took : (l split : Bool) (encoding : Encoding) (endian : RunTimeEndian) (s t : List ℕ) (at : ℕ) → at < length s
-    → Took (at + 1) at s t (readIn l split encoding endian s at) (readIn l split encoding endian t at)
-listed-took true split encoding endian s t at h = location-took split encoding endian s t at h
-listed-took false split encoding endian s t at h = range-took encoding endian s t at h
+pub listed-took : (l : Bool) (coding : Coding) (encoding : Encoding) (endian : RunTimeEndian) (s t : List ℕ) (at : ℕ) → at < length s
+    → Took (at + 1) at s t (readIn l coding encoding endian s at) (readIn l coding encoding endian t at)
+listed-took true coding encoding endian s t at h = location-took (coding .split) encoding endian s t at h
+listed-took false coding encoding endian s t at h = range-took (coding .number) encoding endian s t at h
 
-pub listed-past : (l split : Bool) (encoding : Encoding) (endian : RunTimeEndian) (s : List ℕ) (at : ℕ) → at < length s → Moved at (length s) (readIn l split encoding endian s at)
-listed-past l split encoding endian s at h = moved-of s at (readIn l split encoding endian s at) (listed-took l split encoding endian s s at h)
+pub listed-past : (l : Bool) (coding : Coding) (encoding : Encoding) (endian : RunTimeEndian) (s : List ℕ) (at : ℕ) → at < length s → Moved at (length s) (readIn l coding encoding endian s at)
+listed-past l coding encoding endian s at h = moved-of s at (readIn l coding encoding endian s at) (listed-took l coding encoding endian s s at h)
 
-pub listed-alike : (l split : Bool) (encoding : Encoding) (endian : RunTimeEndian) (s t : List ℕ) (at : ℕ) → Agree at (length s) s t
-    → readIn l split encoding endian s at ≡ readIn l split encoding endian t at
-listed-alike true split encoding endian s t at a = raw-same (locationEntry split encoding endian at) s t at a
-listed-alike false split encoding endian s t at a = raw-same (rangeEntry encoding endian) s t at a
+pub listed-alike : (l : Bool) (coding : Coding) (encoding : Encoding) (endian : RunTimeEndian) (s t : List ℕ) (at : ℕ) → Agree at (length s) s t
+    → readIn l coding encoding endian s at ≡ readIn l coding encoding endian t at
+listed-alike true coding encoding endian s t at a = raw-same (locationEntry (coding .split) encoding endian at) s t at a
+listed-alike false coding encoding endian s t at a = raw-same (rangeEntryBy (coding .number) encoding endian) s t at a

@@ -19,7 +19,7 @@ use Rattle.bytes.proofs.Order.{lt-or-le}
 use Rattle.entries.specs.Forms.{Raw, stop, entry}
 use Rattle.lists.specs.Open.{walkAt, oneMore, readTo, rebased}
 use Rattle.lists.specs.Convert.{Turn, range, rebase, skip, convert, tableAt}
-use Rattle.lists.specs.Walk.{Listing, item, Trace, over, handed, onTurn, onRead, traceFrom, trace, first, next, ranges, locations, nextRange, nextLocation}
+use Rattle.lists.specs.Walk.{Listing, item, Trace, over, handed, onTurn, onRead, traceFrom, trace, first, next, ranges, rangesBy, locations, nextRange, nextRangeBy, nextLocation}
 use Rattle.lists.specs.Uncounted.{uncounted}
 use Rattle.lists.specs.Risen.{risenBy, raised, callRaised}
 use Rattle.lists.specs.declared.Walk.{Walk}
@@ -123,6 +123,9 @@ next-raised l table size len w = call-raised l table size len (w .entries) (unco
 module _ (encoding : Encoding) (endian : RunTimeEndian) (s table : List ℕ) (tableBase : DebugAddrBase) (w : Walk) where
   pub range-raised : callRaised (w .entries) (nextRange encoding endian s table tableBase (uncounted w)) ≡ nextRange encoding endian s table tableBase w
   range-raised = next-raised (ranges encoding endian s) (tableAt endian encoding tableBase table) (encoding .«address_size») (length s) w
+
+  pub range-raised-by : (kinds : List ℕ) → callRaised (w .entries) (nextRangeBy kinds encoding endian s table tableBase (uncounted w)) ≡ nextRangeBy kinds encoding endian s table tableBase w
+  range-raised-by kinds = next-raised (rangesBy kinds encoding endian s) (tableAt endian encoding tableBase table) (encoding .«address_size») (length s) w
 
   pub location-raised : (split : Bool) → callRaised (w .entries) (nextLocation split encoding endian s table tableBase (uncounted w)) ≡ nextLocation split encoding endian s table tableBase w
   location-raised split = next-raised (locations split encoding endian s) (tableAt endian encoding tableBase table) (encoding .«address_size») (length s) w

@@ -1,6 +1,7 @@
 pub mod Open
 pub mod Convert
 pub mod Walk
+pub mod Renumbered
 pub mod Yields
 pub mod Walks
 pub mod Sizes

@@ -14,6 +14,7 @@ use Rattle.bytes.specs.declared.endianity.RunTimeEndian.{RunTimeEndian}
 use Rattle.bytes.specs.declared.error.Error.the-variants.{UnsupportedAddressSize}
 use Rattle.tables.specs.Next.{Next, ends, hands}
 use Rattle.entries.specs.Forms.{Raw, stop, entry}
+use Rattle.entries.specs.Numbers.{Coding, dwarf, tabled}
 use Rattle.entries.specs.Listed.{EntryIn, entryIn, readIn}
 use Rattle.entries.specs.Padded.{Noted, paddedIn}
 use Rattle.entries.specs.declared.Expression.{Expression}
@@ -43,7 +44,7 @@ pub record Listing : Type 1 where
   pub boundsOf : Entry → RawRngListEntry
   pub carried : Entry → Carried
 
--- both lists as one, by whether the list holds locations, and then whether it is split
+-- both lists as one, by whether the list holds locations, and then how its entries are coded
 abbrev pub CarriedIn : Bool → Type 0
 CarriedIn true = Expression
 CarriedIn false = Unit
@@ -56,15 +57,19 @@ abbrev pub carriedIn : (l : Bool) → EntryIn l → CarriedIn l
 carriedIn true e = expressionOf e
 carriedIn false e = tt
 
-abbrev pub listed : Bool → Bool → Encoding → RunTimeEndian → List ℕ → Listing
-listed l split encoding endian s =
-    record { Entry = EntryIn l; Carried = CarriedIn l; read = readIn l split encoding endian s; boundsOf = boundsIn l; carried = carriedIn l }
+abbrev pub listed : Bool → Coding → Encoding → RunTimeEndian → List ℕ → Listing
+listed l coding encoding endian s =
+    record { Entry = EntryIn l; Carried = CarriedIn l; read = readIn l coding encoding endian s; boundsOf = boundsIn l; carried = carriedIn l }
 
 abbrev pub ranges : Encoding → RunTimeEndian → List ℕ → Listing
-ranges encoding endian s = listed false false encoding endian s
+ranges encoding endian s = listed false (dwarf false) encoding endian s
+
+-- with the kind numbers of a table
+abbrev pub rangesBy : List ℕ → Encoding → RunTimeEndian → List ℕ → Listing
+rangesBy kinds encoding endian s = listed false (tabled kinds) encoding endian s
 
 abbrev pub locations : Bool → Encoding → RunTimeEndian → List ℕ → Listing
-locations split encoding endian s = listed true split encoding endian s
+locations split encoding endian s = listed true (dwarf split) encoding endian s
 
 -- a range with what it carries
 pub data Item (D : Type 0) : Type 0 where
@@ -138,12 +143,12 @@ unfoldable pub convertRaw : (l : Listing) → (DebugAddrIndex → Result ℕ) �
 convertRaw l table size w e = converted table size w (l .carried e) (l .boundsOf e)
 
 -- both lists' calls, from the section, the address table, its base and the walk
-abbrev pub nextOf : (l : Bool) → Bool → Encoding → RunTimeEndian → List ℕ → List ℕ → DebugAddrBase → Walk → Next (Item (CarriedIn l)) Walk
-nextOf l split encoding endian s table tableBase w =
-    next (listed l split encoding endian s) (tableAt endian encoding tableBase table) (encoding .«address_size») (length s) w
+abbrev pub nextOf : (l : Bool) → Coding → Encoding → RunTimeEndian → List ℕ → List ℕ → DebugAddrBase → Walk → Next (Item (CarriedIn l)) Walk
+nextOf l coding encoding endian s table tableBase w =
+    next (listed l coding encoding endian s) (tableAt endian encoding tableBase table) (encoding .«address_size») (length s) w
 
-abbrev pub nextRawOf : (l : Bool) → Bool → Encoding → RunTimeEndian → List ℕ → Walk → Next (EntryIn l) Walk
-nextRawOf l split encoding endian s w = nextRaw (listed l split encoding endian s) (encoding .«address_size») (length s) w
+abbrev pub nextRawOf : (l : Bool) → Coding → Encoding → RunTimeEndian → List ℕ → Walk → Next (EntryIn l) Walk
+nextRawOf l coding encoding endian s w = nextRaw (listed l coding encoding endian s) (encoding .«address_size») (length s) w
 
 -- the raw call gives with an entry whether some LEB128 number of it is padded; the end and a refusal give no such thing
 abbrev pub noted : {E : Type 0} → Bool → Next E Walk → Next (Noted E) Walk
@@ -151,30 +156,37 @@ noted p (hands (gives e) w) = hands (gives (record { entry = e; padded = p })) w
 noted p (hands (refused n vs) w) = hands (refused n vs) w
 noted p (ends w) = ends w
 
-abbrev pub notedOf : (l : Bool) → Bool → Encoding → RunTimeEndian → List ℕ → Walk → Next (Noted (EntryIn l)) Walk
-notedOf l split encoding endian s w = noted (paddedIn l split encoding endian s (w .at)) (nextRawOf l split encoding endian s w)
+abbrev pub notedOf : (l : Bool) → Coding → Encoding → RunTimeEndian → List ℕ → Walk → Next (Noted (EntryIn l)) Walk
+notedOf l coding encoding endian s w = noted (paddedIn l coding encoding endian s (w .at)) (nextRawOf l coding encoding endian s w)
 
 -- each list's calls
 abbrev pub nextRange : Encoding → RunTimeEndian → List ℕ → List ℕ → DebugAddrBase → Walk → Next (Item Unit) Walk
-nextRange encoding endian s table tableBase w = nextOf false false encoding endian s table tableBase w
+nextRange encoding endian s table tableBase w = nextOf false (dwarf false) encoding endian s table tableBase w
 
 abbrev pub nextRawRange : Encoding → RunTimeEndian → List ℕ → Walk → Next RawRngListEntry Walk
-nextRawRange encoding endian s w = nextRawOf false false encoding endian s w
+nextRawRange encoding endian s w = nextRawOf false (dwarf false) encoding endian s w
 
 abbrev pub notedRange : Encoding → RunTimeEndian → List ℕ → Walk → Next (Noted RawRngListEntry) Walk
-notedRange encoding endian s w = notedOf false false encoding endian s w
+notedRange encoding endian s w = notedOf false (dwarf false) encoding endian s w
+
+-- those of a range list with the kind numbers of a table
+abbrev pub nextRangeBy : List ℕ → Encoding → RunTimeEndian → List ℕ → List ℕ → DebugAddrBase → Walk → Next (Item Unit) Walk
+nextRangeBy kinds encoding endian s table tableBase w = nextOf false (tabled kinds) encoding endian s table tableBase w
+
+abbrev pub notedRangeBy : List ℕ → Encoding → RunTimeEndian → List ℕ → Walk → Next (Noted RawRngListEntry) Walk
+notedRangeBy kinds encoding endian s w = notedOf false (tabled kinds) encoding endian s w
 
 abbrev pub convertedRange : Encoding → RunTimeEndian → List ℕ → DebugAddrBase → Walk → RawRngListEntry → Outcome Unit
 convertedRange encoding endian table tableBase w e = convertRaw (ranges encoding endian table) (tableAt endian encoding tableBase table) (encoding .«address_size») w e
 
 abbrev pub nextLocation : Bool → Encoding → RunTimeEndian → List ℕ → List ℕ → DebugAddrBase → Walk → Next (Item Expression) Walk
-nextLocation split encoding endian s table tableBase w = nextOf true split encoding endian s table tableBase w
+nextLocation split encoding endian s table tableBase w = nextOf true (dwarf split) encoding endian s table tableBase w
 
 abbrev pub nextRawLocation : Bool → Encoding → RunTimeEndian → List ℕ → Walk → Next RawLocListEntry Walk
-nextRawLocation split encoding endian s w = nextRawOf true split encoding endian s w
+nextRawLocation split encoding endian s w = nextRawOf true (dwarf split) encoding endian s w
 
 abbrev pub notedLocation : Bool → Encoding → RunTimeEndian → List ℕ → Walk → Next (Noted RawLocListEntry) Walk
-notedLocation split encoding endian s w = notedOf true split encoding endian s w
+notedLocation split encoding endian s w = notedOf true (dwarf split) encoding endian s w
 
 abbrev pub convertedLocation : Encoding → RunTimeEndian → List ℕ → DebugAddrBase → Walk → RawLocListEntry → Outcome Expression
 convertedLocation encoding endian table tableBase w e = convertRaw (locations false encoding endian table) (tableAt endian encoding tableBase table) (encoding .«address_size») w e

@@ -15,6 +15,7 @@ use entries::LocationStep;
 use entries::RawLocationStep;
 use entries::RawRngListEntry;
 ghost use mathlib.Core.Path.{_≡_};
+ghost use Rattle.entries.specs.Numbers.{codingOf};
 ghost use Rattle.lists.specs.Convert.{tableAt};
 ghost use Rattle.lists.specs.Walk.{toldRawLocation, notedIn, notedOf, toldConvertedLocation, converted, toldNextLocation, nextIn, nextOf};
 
@@ -27,8 +28,10 @@ pub fn next_raw(
     endian: RunTimeEndian,
     locations: bool,
     split: bool,
+    by_table: bool,
+    kinds: &[u8],
 ) -> RawLocationAnswer
-    ensures { λ r. ⌜ notedIn locations (toldRawLocation r) ≡ notedOf locations split encoding endian (now (section .entry)) walk ⌝ }
+    ensures { λ r. ⌜ notedIn locations (toldRawLocation r) ≡ notedOf locations (codingOf split «by_table» (now (kinds .entry))) encoding endian (now (section .entry)) walk ⌝ }
 {
     let at = walk.at;
     let base_address = walk.base_address;
@@ -38,7 +41,16 @@ pub fn next_raw(
         if section.len() <= at {
             return RawLocationAnswer::End(walk);
         }
-        return match entries::padded::noted_entry(section, at, encoding, endian, locations, split) {
+        return match entries::padded::noted_entry(
+            section,
+            at,
+            encoding,
+            endian,
+            locations,
+            split,
+            by_table,
+            kinds,
+        ) {
             RawLocationStep::Entry(raw, padded, c) => RawLocationAnswer::Entry(
                 raw,
                 padded,
@@ -124,8 +136,10 @@ pub fn next(
     endian: RunTimeEndian,
     locations: bool,
     split: bool,
+    by_table: bool,
+    kinds: &[u8],
 ) -> LocationAnswer
-    ensures { λ r. ⌜ nextIn locations (toldNextLocation r) ≡ nextOf locations split encoding endian (now (section .entry)) (now («debug_addr» .entry)) «debug_addr_base» walk ⌝ }
+    ensures { λ r. ⌜ nextIn locations (toldNextLocation r) ≡ nextOf locations (codingOf split «by_table» (now (kinds .entry))) encoding endian (now (section .entry)) (now («debug_addr» .entry)) «debug_addr_base» walk ⌝ }
 {
     let mut at = walk.at;
     let mut base_address = walk.base_address;
@@ -133,7 +147,16 @@ pub fn next(
     let size = encoding.address_size as u64;
     if bytes::reader::is_address_size(size) {
         while at < section.len() {
-            match entries::raw::raw_entry(section, at, encoding, endian, locations, split) {
+            match entries::raw::raw_entry(
+                section,
+                at,
+                encoding,
+                endian,
+                locations,
+                split,
+                by_table,
+                kinds,
+            ) {
                 LocationStep::Refused(e) => {
                     return LocationAnswer::Refused(
                         e,

@@ -63,7 +63,7 @@ pub fn next_raw(
     ensures { λ r. ⌜ toldRawLocation r ≡ notedLocation (isSplit «file_type») encoding endian (now (section .entry)) walk ⌝ }
 {
     let split = file_type.is_split();
-    super::listed::next_raw(section, walk, encoding, endian, true, split)
+    super::listed::next_raw(section, walk, encoding, endian, true, split, false, section)
 }
 
 pub enum LocationConverted {
@@ -126,6 +126,8 @@ pub fn next(
         endian,
         true,
         split,
+        false,
+        section,
     )
 }
 

@@ -12,9 +12,10 @@ use bytes::endianity::RunTimeEndian;
 use bytes::error::Error;
 use entries::Expression;
 use entries::RawRngListEntry;
+ghost use mathlib.Core.Bool.{false};
 ghost use mathlib.Core.Path.{_≡_};
 ghost use Rattle.lists.specs.Open.{toldOpened, opened, sectionFor};
-ghost use Rattle.lists.specs.Walk.{toldRawRange, notedRange, toldConvertedRange, convertedRange, toldNextRange, nextRange};
+ghost use Rattle.lists.specs.Walk.{toldRawRange, notedRange, notedRangeBy, toldConvertedRange, convertedRange, toldNextRange, nextRange, nextRangeBy, toldRawLocation, notedIn, toldNextLocation, nextIn};
 
 // The section that the lists of a version stand in.
 pub fn section<'a>(debug_ranges: &'a [u8], debug_rnglists: &'a [u8], encoding: Encoding) -> &'a [u8]
@@ -51,6 +52,21 @@ pub enum RawRangeAnswer {
     Refused(Error, Walk),
 }
 
+// A raw location without what it carries.
+fn raw_range_answer(r: RawLocationAnswer) -> RawRangeAnswer
+    ensures { λ q. ⌜ toldRawRange q ≡ notedIn false (toldRawLocation r) ⌝ }
+{
+    match r {
+        RawLocationAnswer::Entry(raw, padded, after) => RawRangeAnswer::Entry(
+            entries::raw::bounds_of(raw),
+            padded,
+            after,
+        ),
+        RawLocationAnswer::End(after) => RawRangeAnswer::End(after),
+        RawLocationAnswer::Refused(e, after) => RawRangeAnswer::Refused(e, after),
+    }
+}
+
 // The next raw entry, and whether some LEB128 number of it is padded: 6 with the size before all else, then the refusals of an
 // entry. The end mark and a refusal empty the walk.
 pub fn next_raw(
@@ -61,15 +77,31 @@ pub fn next_raw(
 ) -> RawRangeAnswer
     ensures { λ r. ⌜ toldRawRange r ≡ notedRange encoding endian (now (section .entry)) walk ⌝ }
 {
-    match super::listed::next_raw(section, walk, encoding, endian, false, false) {
-        RawLocationAnswer::Entry(raw, padded, after) => RawRangeAnswer::Entry(
-            entries::raw::bounds_of(raw),
-            padded,
-            after,
-        ),
-        RawLocationAnswer::End(after) => RawRangeAnswer::End(after),
-        RawLocationAnswer::Refused(e, after) => RawRangeAnswer::Refused(e, after),
-    }
+    let r = super::listed::next_raw(
+        section,
+        walk,
+        encoding,
+        endian,
+        false,
+        false,
+        false,
+        section,
+    );
+    raw_range_answer(r)
+}
+
+// The same by a table of kind numbers, which bare pairs have no use for; a code without a kind is refused with 3 and the code.
+pub fn next_raw_by(
+    section: &[u8],
+    walk: Walk,
+    encoding: Encoding,
+    endian: RunTimeEndian,
+    kinds: &[u8],
+) -> RawRangeAnswer
+    ensures { λ r. ⌜ toldRawRange r ≡ notedRangeBy (now (kinds .entry)) encoding endian (now (section .entry)) walk ⌝ }
+{
+    let r = super::listed::next_raw(section, walk, encoding, endian, false, false, true, kinds);
+    raw_range_answer(r)
 }
 
 pub enum RangeConverted {
@@ -114,6 +146,20 @@ pub enum RangeAnswer {
     Refused(Error, Walk),
 }
 
+// A location without what it carries.
+fn range_answer(r: LocationAnswer) -> RangeAnswer
+    ensures { λ q. ⌜ toldNextRange q ≡ nextIn false (toldNextLocation r) ⌝ }
+{
+    match r {
+        LocationAnswer::Location(x, after) => {
+            let range = x.range;
+            RangeAnswer::Range(range, after)
+        }
+        LocationAnswer::End(after) => RangeAnswer::End(after),
+        LocationAnswer::Refused(e, after) => RangeAnswer::Refused(e, after),
+    }
+}
+
 // The next range: 6 with the size before all else, then the refusals of an entry, which empty the walk, and of the
 // address table, which leave it after the entry.
 pub fn next(
@@ -126,7 +172,7 @@ pub fn next(
 ) -> RangeAnswer
     ensures { λ r. ⌜ toldNextRange r ≡ nextRange encoding endian (now (section .entry)) (now («debug_addr» .entry)) «debug_addr_base» walk ⌝ }
 {
-    match super::listed::next(
+    let r = super::listed::next(
         section,
         debug_addr,
         debug_addr_base,
@@ -135,12 +181,35 @@ pub fn next(
         endian,
         false,
         false,
-    ) {
-        LocationAnswer::Location(x, after) => {
-            let range = x.range;
-            RangeAnswer::Range(range, after)
-        }
-        LocationAnswer::End(after) => RangeAnswer::End(after),
-        LocationAnswer::Refused(e, after) => RangeAnswer::Refused(e, after),
-    }
+        false,
+        section,
+    );
+    range_answer(r)
+}
+
+// The same by a table of kind numbers, which bare pairs have no use for; a code without a kind is refused with 3 and the code.
+pub fn next_by(
+    section: &[u8],
+    debug_addr: &[u8],
+    debug_addr_base: DebugAddrBase,
+    walk: Walk,
+    encoding: Encoding,
+    endian: RunTimeEndian,
+    kinds: &[u8],
+) -> RangeAnswer
+    ensures { λ r. ⌜ toldNextRange r ≡ nextRangeBy (now (kinds .entry)) encoding endian (now (section .entry)) (now («debug_addr» .entry)) «debug_addr_base» walk ⌝ }
+{
+    let r = super::listed::next(
+        section,
+        debug_addr,
+        debug_addr_base,
+        walk,
+        encoding,
+        endian,
+        false,
+        false,
+        true,
+        kinds,
+    );
+    range_answer(r)
 }

@@ -9,6 +9,7 @@ use Rattle.bytes.specs.Error.{refusal}
 use Rattle.bytes.specs.declared.common.DebugAddrBase.{DebugAddrBase}
 use Rattle.bytes.specs.declared.common.Encoding.{Encoding}
 use Rattle.bytes.specs.declared.endianity.RunTimeEndian.{RunTimeEndian}
+use Rattle.entries.specs.Numbers.{Coding, dwarf, tabled}
 use Rattle.entries.specs.declared.Expression.{Expression}
 use Rattle.lists.specs.Open.{opened}
 use Rattle.lists.specs.Convert.{tableAt}
@@ -34,19 +35,23 @@ lookupIn a (handed (gives (item b e d)) w t) = pick (holds a b e) (gives (found 
 lookupIn a (handed (refused n vs) w t) = refused n vs
 
 -- both lists' lookups from a walk on, by whether the list holds locations
-abbrev pub lookupFrom : (l : Bool) → Bool → Encoding → RunTimeEndian → List ℕ → List ℕ → DebugAddrBase → ℕ → Walk → Result (Found (CarriedIn l))
-lookupFrom l split encoding endian s table tableBase a w =
-    lookupIn a (trace (listed l split encoding endian s) (tableAt endian encoding tableBase table) (encoding .«address_size») (length s) w)
+abbrev pub lookupFrom : (l : Bool) → Coding → Encoding → RunTimeEndian → List ℕ → List ℕ → DebugAddrBase → ℕ → Walk → Result (Found (CarriedIn l))
+lookupFrom l coding encoding endian s table tableBase a w =
+    lookupIn a (trace (listed l coding encoding endian s) (tableAt endian encoding tableBase table) (encoding .«address_size») (length s) w)
 
-abbrev pub lookupRangeFrom : Encoding → RunTimeEndian → List ℕ → List ℕ → DebugAddrBase → ℕ → Walk → Result (Found Unit)
-lookupRangeFrom encoding endian s table tableBase a w = lookupFrom false false encoding endian s table tableBase a w
+abbrev pub lookupRangeIn : Coding → Encoding → RunTimeEndian → List ℕ → List ℕ → DebugAddrBase → ℕ → ℕ → ℕ → Result (Found Unit)
+lookupRangeIn coding encoding endian s table tableBase offset base a =
+    andThen (opened encoding s offset base) (lookupFrom false coding encoding endian s table tableBase a)
 
 abbrev pub lookupRange : Encoding → RunTimeEndian → List ℕ → List ℕ → DebugAddrBase → ℕ → ℕ → ℕ → Result (Found Unit)
-lookupRange encoding endian s table tableBase offset base a =
-    andThen (opened encoding s offset base) (lookupRangeFrom encoding endian s table tableBase a)
+lookupRange encoding endian s table tableBase offset base a = lookupRangeIn (dwarf false) encoding endian s table tableBase offset base a
+
+-- with the kind numbers of a table
+abbrev pub lookupRangeBy : List ℕ → Encoding → RunTimeEndian → List ℕ → List ℕ → DebugAddrBase → ℕ → ℕ → ℕ → Result (Found Unit)
+lookupRangeBy kinds encoding endian s table tableBase offset base a = lookupRangeIn (tabled kinds) encoding endian s table tableBase offset base a
 
 abbrev pub lookupLocationFrom : Bool → Encoding → RunTimeEndian → List ℕ → List ℕ → DebugAddrBase → ℕ → Walk → Result (Found Expression)
-lookupLocationFrom split encoding endian s table tableBase a w = lookupFrom true split encoding endian s table tableBase a w
+lookupLocationFrom split encoding endian s table tableBase a w = lookupFrom true (dwarf split) encoding endian s table tableBase a w
 
 abbrev pub lookupLocation : Bool → Encoding → RunTimeEndian → List ℕ → List ℕ → DebugAddrBase → ℕ → ℕ → ℕ → Result (Found Expression)
 lookupLocation split encoding endian s table tableBase offset base a =

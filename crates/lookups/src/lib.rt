@@ -15,7 +15,8 @@ ghost use mathlib.Core.Path.{_≡_};
 ghost use mathlib.Core.Bool.{true, false};
 ghost use Rattle.bytes.specs.Common.{isSplit};
 ghost use Rattle.bytes.specs.Reader.{isSize};
-ghost use Rattle.lookups.specs.Lookup.{holds as holdsAt, foundIn, lookupFrom, toldRangeFound, lookupRange, toldLocationFound, lookupLocation};
+ghost use Rattle.entries.specs.Numbers.{codingOf};
+ghost use Rattle.lookups.specs.Lookup.{holds as holdsAt, foundIn, lookupFrom, toldRangeFound, lookupRangeIn, lookupRange, lookupRangeBy, toldLocationFound, lookupLocation};
 
 pub enum RangeFound {
     Found(Range),
@@ -50,10 +51,12 @@ fn found_from(
     endian: RunTimeEndian,
     locations: bool,
     split: bool,
+    by_table: bool,
+    kinds: &[u8],
     address: u64,
 ) -> LocationFound
     requires { ⌜ isSize (encoding .«address_size») ≡ true ⌝ }
-    ensures { λ r. ⌜ foundIn locations (toldLocationFound r) ≡ lookupFrom locations split encoding endian (now (section .entry)) (now («debug_addr» .entry)) «debug_addr_base» address start ⌝ }
+    ensures { λ r. ⌜ foundIn locations (toldLocationFound r) ≡ lookupFrom locations (codingOf split «by_table» (now (kinds .entry))) encoding endian (now (section .entry)) (now («debug_addr» .entry)) «debug_addr_base» address start ⌝ }
 {
     let mut walk = start;
     loop {
@@ -66,6 +69,8 @@ fn found_from(
             endian,
             locations,
             split,
+            by_table,
+            kinds,
         ) {
             LocationAnswer::Location(location, after) => {
                 let range = location.range;
@@ -98,6 +103,42 @@ fn range_found(r: LocationFound) -> RangeFound
     }
 }
 
+// The first range of the list at an offset that holds an address, with the kind numbers of DWARF or of a table.
+fn lookup_in(
+    section: &[u8],
+    debug_addr: &[u8],
+    debug_addr_base: DebugAddrBase,
+    offset: RangeListsOffset,
+    base_address: u64,
+    encoding: Encoding,
+    endian: RunTimeEndian,
+    by_table: bool,
+    kinds: &[u8],
+    address: u64,
+) -> RangeFound
+    ensures { λ r. ⌜ toldRangeFound r ≡ lookupRangeIn (codingOf false «by_table» (now (kinds .entry))) encoding endian (now (section .entry)) (now («debug_addr» .entry)) «debug_addr_base» (offset .0) «base_address» address ⌝ }
+{
+    match lists::rnglists::ranges(section, offset, encoding, base_address) {
+        Opened::Refused(e) => RangeFound::Refused(e),
+        Opened::List(start) => {
+            let found = found_from(
+                section,
+                debug_addr,
+                debug_addr_base,
+                start,
+                encoding,
+                endian,
+                false,
+                false,
+                by_table,
+                kinds,
+                address,
+            );
+            range_found(found)
+        }
+    }
+}
+
 // The first range of the list at an offset that holds an address: the refusals of opening, then the first that the walk
 // meets before that range. What follows it is not read.
 pub fn lookup_range(
@@ -112,23 +153,46 @@ pub fn lookup_range(
 ) -> RangeFound
     ensures { λ r. ⌜ toldRangeFound r ≡ lookupRange encoding endian (now (section .entry)) (now («debug_addr» .entry)) «debug_addr_base» (offset .0) «base_address» address ⌝ }
 {
-    match lists::rnglists::ranges(section, offset, encoding, base_address) {
-        Opened::Refused(e) => RangeFound::Refused(e),
-        Opened::List(start) => {
-            let found = found_from(
-                section,
-                debug_addr,
-                debug_addr_base,
-                start,
-                encoding,
-                endian,
-                false,
-                false,
-                address,
-            );
-            range_found(found)
-        }
-    }
+    lookup_in(
+        section,
+        debug_addr,
+        debug_addr_base,
+        offset,
+        base_address,
+        encoding,
+        endian,
+        false,
+        section,
+        address,
+    )
+}
+
+// The same by a table of kind numbers, which bare pairs have no use for.
+pub fn lookup_range_by(
+    section: &[u8],
+    debug_addr: &[u8],
+    debug_addr_base: DebugAddrBase,
+    offset: RangeListsOffset,
+    base_address: u64,
+    encoding: Encoding,
+    endian: RunTimeEndian,
+    kinds: &[u8],
+    address: u64,
+) -> RangeFound
+    ensures { λ r. ⌜ toldRangeFound r ≡ lookupRangeBy (now (kinds .entry)) encoding endian (now (section .entry)) (now («debug_addr» .entry)) «debug_addr_base» (offset .0) «base_address» address ⌝ }
+{
+    lookup_in(
+        section,
+        debug_addr,
+        debug_addr_base,
+        offset,
+        base_address,
+        encoding,
+        endian,
+        true,
+        kinds,
+        address,
+    )
 }
 
 // The first location of the list at an offset whose range holds an address, plain or split: the refusals of opening,
@@ -159,6 +223,8 @@ pub fn lookup_location(
                 endian,
                 true,
                 split,
+                false,
+                section,
                 address,
             )
         }

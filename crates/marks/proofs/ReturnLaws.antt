@@ -16,6 +16,7 @@ use Rattle.bytes.specs.declared.error.Error.the-variants.{NoSuchMark}
 use Rattle.bytes.specs.declared.common.DebugAddrBase.{DebugAddrBase}
 use Rattle.bytes.specs.declared.common.Encoding.{Encoding}
 use Rattle.bytes.specs.declared.endianity.RunTimeEndian.{RunTimeEndian}
+use Rattle.entries.specs.Numbers.{Coding}
 use Rattle.entries.specs.Listed.{EntryIn}
 use Rattle.entries.specs.Padded.{paddedIn}
 use Rattle.tables.specs.Next.{Next, ends, hands}
@@ -208,11 +209,11 @@ module _ {W M : Type 0} (k : Keeping W M) (r : Reading W) where
 pub walks-return : Returns structs every
 walks-return = returns-for structs every
 
-converted-as : (l split : Bool) (encoding : Encoding) (endian : RunTimeEndian) (s table : List ℕ) (tableBase : DebugAddrBase) (w : Walk) (e : EntryIn l)
-    → leftAfter (call.convertedOf l encoding endian table tableBase w e) ≡ leftAfter (convertRaw (listed l split encoding endian s) (tableAt endian encoding tableBase table) (encoding .«address_size») w e)
+converted-as : (l : Bool) (coding : Coding) (encoding : Encoding) (endian : RunTimeEndian) (s table : List ℕ) (tableBase : DebugAddrBase) (w : Walk) (e : EntryIn l)
+    → leftAfter (call.convertedOf l encoding endian table tableBase w e) ≡ leftAfter (convertRaw (listed l coding encoding endian s) (tableAt endian encoding tableBase table) (encoding .«address_size») w e)
 unfolding convertRaw
-converted-as true split encoding endian s table tableBase w e = refl
-converted-as false split encoding endian s table tableBase w e = refl
+converted-as true coding encoding endian s table tableBase w e = refl
+converted-as false coding encoding endian s table tableBase w e = refl
 
 -- the walk that a raw call hands back, whatever is noted of the entry
 left-noted : {E : Type 0} (p : Bool) (n : Next E Walk) → leftBy (noted p n) ≡ leftBy n
@@ -222,16 +223,16 @@ left-noted p (ends w) = refl
 
 module _ (x : Source) (offset : ℕ) where
   abbrev From : Walk → Type 0
-  From = Reached (x .encoding) (x .section) (listed (x .locations) (x .split) (x .encoding) (x .endian) (x .section)) offset
+  From = Reached (x .encoding) (x .section) (listed (x .locations) (x .coding) (x .encoding) (x .endian) (x .section)) offset
 
   call-from : (c : call.Call (x .locations)) (w : Walk) → From w → From (call.left (call.answer x c w))
   call-from (call.next table tableBase) w q = by-next (tableAt (x .endian) (x .encoding) tableBase table) w q
   call-from call.nextRaw w q =
       subst From
-      (sym (left-noted (paddedIn (x .locations) (x .split) (x .encoding) (x .endian) (x .section) (w .at)) (nextRawOf (x .locations) (x .split) (x .encoding) (x .endian) (x .section) w)))
+      (sym (left-noted (paddedIn (x .locations) (x .coding) (x .encoding) (x .endian) (x .section) (w .at)) (nextRawOf (x .locations) (x .coding) (x .encoding) (x .endian) (x .section) w)))
       (by-next-raw w q)
   call-from (call.convertRaw table tableBase e) w q =
-      subst From (sym (converted-as (x .locations) (x .split) (x .encoding) (x .endian) (x .section) table tableBase w e))
+      subst From (sym (converted-as (x .locations) (x .coding) (x .encoding) (x .endian) (x .section) table tableBase w e))
       (by-convert-raw (tableAt (x .endian) (x .encoding) tableBase table) e w q)
 
   steps-from : (ss : List (Step (call.Call (x .locations)))) → KeptBy (over x) From ss
@@ -242,5 +243,5 @@ module _ (x : Source) (offset : ℕ) where
 
 pub marks-counted : (x : Source) → MarksCounted x
 marks-counted x offset base w short o ss =
-    listed-counted (x .encoding) (x .endian) (x .section) offset (x .locations) (x .split) .exact short
+    listed-counted (x .encoding) (x .endian) (x .section) offset (x .locations) (x .coding) .exact short
     (returns-for structs (over x) .passes (From x offset) (fresh structs w) (fresh-holds structs (over x) (From x offset) w (by-opening base o)) ss (steps-from x offset ss) .0)

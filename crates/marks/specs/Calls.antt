@@ -7,6 +7,7 @@ use Rattle.bytes.specs.declared.common.DebugAddrBase.{DebugAddrBase}
 use Rattle.bytes.specs.declared.common.Encoding.{Encoding}
 use Rattle.bytes.specs.declared.endianity.RunTimeEndian.{RunTimeEndian}
 use Rattle.tables.specs.Next.{Next}
+use Rattle.entries.specs.Numbers.{Coding}
 use Rattle.entries.specs.Listed.{EntryIn}
 use Rattle.entries.specs.Padded.{Noted}
 use Rattle.lists.specs.Counted.{leftBy, leftAfter}
@@ -14,10 +15,11 @@ use Rattle.lists.specs.Walk.{CarriedIn, Item, Outcome, nextOf, notedOf, convert
 use Rattle.lists.specs.declared.Walk.{Walk}
 use Rattle.marks.specs.Steps.{Reading}
 
--- a list as its calls are told of it: whether it holds locations, and then whether it is split; how it is written; its section
+-- a list as its calls are told of it: whether it holds locations, and then how its entries are coded; how it is written; its section. So
+-- the calls by a table of kind numbers are among them
 pub record Source : Type 0 where
   pub locations : Bool
-  pub split : Bool
+  pub coding : Coding
   pub encoding : Encoding
   pub endian : RunTimeEndian
   pub section : List ℕ
@@ -38,8 +40,8 @@ convertedOf true encoding endian table tableBase w e = convertedLocation encodin
 convertedOf false encoding endian table tableBase w e = convertedRange encoding endian table tableBase w e
 
 abbrev pub answer : (x : Source) → Call (x .locations) → Walk → Answer (x .locations)
-answer x (next table tableBase) w = item (nextOf (x .locations) (x .split) (x .encoding) (x .endian) (x .section) table tableBase w)
-answer x nextRaw w = raw (notedOf (x .locations) (x .split) (x .encoding) (x .endian) (x .section) w)
+answer x (next table tableBase) w = item (nextOf (x .locations) (x .coding) (x .encoding) (x .endian) (x .section) table tableBase w)
+answer x nextRaw w = raw (notedOf (x .locations) (x .coding) (x .encoding) (x .endian) (x .section) w)
 answer x (convertRaw table tableBase e) w = converted (convertedOf (x .locations) (x .encoding) (x .endian) table tableBase w e)
 
 abbrev pub left : {l : Bool} → Answer l → Walk

@@ -57,4 +57,4 @@ abbrev pub MarksCounted : Source → Type 0
 MarksCounted x = (offset base : ℕ) (w : Walk) → length (x .section) < 2 ^ 64 → opened (x .encoding) (x .section) offset base ≡ gives w
     → (steps : List (Step (Call (x .locations))))
     → run structs (over x) steps (fresh structs w) .walk .entries
-    ≡ entriesBefore (listed (x .locations) (x .split) (x .encoding) (x .endian) (x .section)) offset (run structs (over x) steps (fresh structs w) .walk .at)
+    ≡ entriesBefore (listed (x .locations) (x .coding) (x .encoding) (x .endian) (x .section)) offset (run structs (over x) steps (fresh structs w) .walk .at)

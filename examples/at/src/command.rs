@@ -38,23 +38,39 @@ pub fn run(usage: &str, answer: impl FnOnce(&[String]) -> Outcome<(String, u8)>)
     }
 }
 
-/// The words without options, and the files that follow --split.
-pub fn split(words: &[String]) -> Outcome<(Vec<&str>, Vec<&Path>)> {
-    let (mut plain, mut split) = (Vec::new(), Vec::new());
+/// The words of a command line.
+#[derive(Default)]
+pub struct Words<'a> {
+    /// Those without options.
+    pub plain: Vec<&'a str>,
+    /// The files that follow --split.
+    pub split: Vec<&'a Path>,
+    /// The file that follows --kinds.
+    pub kinds: Option<&'a Path>,
+}
+
+pub fn sorted(words: &[String]) -> Outcome<Words<'_>> {
+    let Words { mut plain, mut split, mut kinds } = Words::default();
     let mut words = words.iter();
     while let Some(word) = words.next() {
         match word.as_str() {
-            "--split" => match words.next() {
-                Some(path) => split.push(Path::new(path)),
-                None => return Err(Wrong::Use("--split lacks its file\n".into())),
-            },
+            option @ ("--split" | "--kinds") => {
+                let Some(path) = words.next().map(Path::new) else {
+                    return Err(Wrong::Use(format!("{option} lacks its file\n")));
+                };
+                if option == "--split" {
+                    split.push(path);
+                } else if kinds.replace(path).is_some() {
+                    return Err(Wrong::Use("--kinds is there twice\n".into()));
+                }
+            }
             word if word.starts_with('-') && word.len() > 1 => {
                 return Err(Wrong::Use(format!("no such option: {word}\n")));
             }
             word => plain.push(word),
         }
     }
-    Ok((plain, split))
+    Ok(Words { plain, split, kinds })
 }
 
 /// A number below 2^64, decimal or after 0x hexadecimal.

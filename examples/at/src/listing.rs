@@ -7,6 +7,7 @@ use crate::unit::Unit;
 use crate::wrong::{FOUND, NOT_THERE, Outcome, Wrong};
 use crate::{LEGEND, Value};
 use std::fmt::Write;
+use yeltzarun::KindTable;
 
 /// The lists of a program, and what could not be read.
 #[derive(Default)]
@@ -53,13 +54,15 @@ impl Listing {
             yeltzarun::DwarfFileType::Main => "",
             yeltzarun::DwarfFileType::Dwo => ", split",
         };
+        let own_codes = context.encoding.version < 5 || *context.kinds == KindTable::DWARF;
+        let kinds = if own_codes { "" } else { " by a table of kind numbers" };
         let base_address = match &context.base_address {
             Ok(base_address) => number(base_address),
             Err(wrong) => wrong.to_string(),
         };
         let heading = format!(
             "unit {:#x} {}: DWARF {}, addresses of {} bytes{}{split}, base address {base_address}, \
-             address table {}, range lists {}, location lists {}",
+             address table {}, range lists {}{kinds}, location lists {}",
             unit.offset(),
             text::name(&unit.name()),
             context.encoding.version,

@@ -6,8 +6,8 @@ use crate::wrong::{Outcome, Wrong};
 use yeltzarun::{
     DebugAddr, DebugAddrBase, DebugAddrIndex, DebugLoc, DebugLocLists, DebugLocListsBase,
     DebugLocListsIndex, DebugRanges, DebugRngLists, DebugRngListsBase, DebugRngListsIndex,
-    DwarfFileType, Encoding, LocationListEntry, LocationLists, LocationListsOffset, Noted, Range,
-    RangeLists, RangeListsOffset, RawLocListEntry, RawRngListEntry, RunTimeEndian,
+    DwarfFileType, Encoding, KindTable, LocationListEntry, LocationLists, LocationListsOffset,
+    Noted, Range, RangeLists, RangeListsOffset, RawLocListEntry, RawRngListEntry, RunTimeEndian,
 };
 
 /// What the lists of a unit are read with, all of it from attributes and headers.
@@ -34,6 +34,8 @@ pub struct Context {
     pub rnglists: Option<&'static [u8]>,
     pub loc: Option<&'static [u8]>,
     pub loclists: Option<&'static [u8]>,
+    /// The codes for the kinds of range list entries: DWARF's own where none were given.
+    pub kinds: &'static KindTable,
 }
 
 /// A list that an attribute names.
@@ -135,12 +137,13 @@ impl Context {
         DebugAddr::new(self.addr.unwrap_or(&[]), self.endian)
     }
 
-    fn range_lists(&self) -> RangeLists<'static> {
+    fn range_lists(&self) -> RangeLists<'static, &'static KindTable> {
         let (older, newer) = (self.ranges.unwrap_or(&[]), self.rnglists.unwrap_or(&[]));
         RangeLists::new(
             DebugRanges::new(older, self.endian),
             DebugRngLists::new(newer, self.endian),
         )
+        .with_kinds(self.kinds)
     }
 
     fn location_lists(&self) -> LocationLists<'static> {

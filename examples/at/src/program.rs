@@ -8,6 +8,7 @@ use std::cell::RefCell;
 use std::collections::HashMap;
 use std::path::Path;
 use std::rc::Rc;
+use yeltzarun::KindTable;
 
 /// Units that stand in one section and may name each other's entries.
 pub struct Family {
@@ -53,14 +54,16 @@ fn family(
 }
 
 impl Program {
-    /// A file, and the .dwo or .dwp files that were given with it.
-    pub fn open(path: &Path, given: &[&Path]) -> Outcome<Program> {
+    /// A file, the .dwo or .dwp files that were given with it, and where one was given the file with its
+    /// compiler's codes for the kinds of range list entries.
+    pub fn open(path: &Path, given: &[&Path], kinds: Option<&Path>) -> Outcome<Program> {
+        let kinds = kinds.map_or(Ok(&KindTable::DWARF), kind_table)?;
         let file = File::open(path)?;
         let given = given.iter().map(|path| File::open(path)).collect::<Outcome<Vec<_>>>()?;
-        Program::of(&file, given)
+        Program::of(&file, given, kinds)
     }
 
-    pub fn of(file: &File, given: Vec<File>) -> Outcome<Program> {
+    pub fn of(file: &File, given: Vec<File>, kinds: &'static KindTable) -> Outcome<Program> {
         let wrong = |what: String| Err(Wrong::Unreadable(format!("{}: {what}", file.path)));
         if !file.has(".debug_info") {
             if file.has(".debug_info.dwo") {
@@ -74,7 +77,7 @@ impl Program {
         if file.is_relocatable() {
             return wrong("an object that is not linked: its relocations are not applied".into());
         }
-        let sections = Rc::new(Sections::of(file, DwarfFileType::Main)?);
+        let sections = Rc::new(Sections::of(file, DwarfFileType::Main, kinds)?);
         let (main, types) = family(&sections, None)?;
         Ok(Program { main: Rc::new(main), types, given, split: RefCell::default() })
     }
@@ -122,9 +125,17 @@ impl Program {
     }
 }
 
+/// The table of a file.
+fn kind_table(path: &Path) -> Outcome<&'static KindTable> {
+    let name = path.display().to_string();
+    let bytes = std::fs::read(path).map_err(Wrong::parse(&name))?;
+    let what = format!("{name}: a table of kind numbers");
+    Ok(Box::leak(Box::new(KindTable::load(&bytes).map_err(Wrong::refused(what))?)))
+}
+
 /// The unit with an id in a .dwo or .dwp file.
 fn split_of(file: &File, skeleton: &Rc<Unit>, id: u64) -> Outcome<Option<Member>> {
-    let mut sections = Sections::of(file, DwarfFileType::Dwo)?;
+    let mut sections = Sections::of(file, DwarfFileType::Dwo, skeleton.sections.kinds)?;
     if sections.endian != skeleton.sections.endian {
         let wrong = format!("{}: the byte order is not the program's", file.path);
         return Err(Wrong::Unreadable(wrong));

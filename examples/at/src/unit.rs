@@ -11,6 +11,7 @@ use gimli::{
 };
 use std::cell::OnceCell;
 use std::rc::Rc;
+use yeltzarun::KindTable;
 
 /// The sections of a main file, of a .dwo file, or of a unit in a .dwp file.
 pub struct Sections {
@@ -30,11 +31,16 @@ pub struct Sections {
     pub rnglists: Option<&'static [u8]>,
     pub loc: Option<&'static [u8]>,
     pub loclists: Option<&'static [u8]>,
+    pub kinds: &'static KindTable,
 }
 
 impl Sections {
     /// The sections of a file; those of a split one have names of their own.
-    pub fn of(file: &File, file_type: DwarfFileType) -> Outcome<Sections> {
+    pub fn of(
+        file: &File,
+        file_type: DwarfFileType,
+        kinds: &'static KindTable,
+    ) -> Outcome<Sections> {
         let section = |name: &str| match file_type {
             DwarfFileType::Main => file.section(name),
             DwarfFileType::Dwo => file.section(&format!("{name}.dwo")),
@@ -58,6 +64,7 @@ impl Sections {
             rnglists: section(".debug_rnglists")?,
             loc: section(".debug_loc")?,
             loclists: section(".debug_loclists")?,
+            kinds,
         })
     }
 
@@ -179,6 +186,7 @@ impl Unit {
             rnglists: sections.rnglists,
             loc: sections.loc,
             loclists: sections.loclists,
+            kinds: sections.kinds,
         };
         let mut str_offsets_base = split.then(|| {
             DebugStrOffsetsBase::default_for_encoding_and_file(

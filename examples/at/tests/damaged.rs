@@ -1,6 +1,7 @@
 //! Files with damaged bytes: at and lists always come to an answer.
 
 use object::{Object, ObjectSection};
+use yeltzarun::KindTable;
 use yeltzarun_at::file::File;
 use yeltzarun_at::program::Program;
 use yeltzarun_at::{listing, scope, text};
@@ -9,7 +10,7 @@ use yeltzarun_at::{listing, scope, text};
 fn ask(bytes: Vec<u8>) {
     let bytes = Box::leak(bytes.into_boxed_slice());
     let Ok(file) = File::of("damaged".into(), bytes) else { return };
-    let Ok(program) = Program::of(&file, Vec::new()) else { return };
+    let Ok(program) = Program::of(&file, Vec::new(), &KindTable::DWARF) else { return };
     for address in [0x1000, 0x1004, 0x1160, 0x1170] {
         let answer = scope::at(&program, address);
         let _ = (text::answer(address, &answer), answer.status());

@@ -5,6 +5,7 @@ use mathlib.Core.Path.{_≡_, refl, sym, ap, _∙_}
 use native.Mathlib.Omega.{arith}
 use borrow.Author.Needs.{needs}
 use lib.ListN.{length}
+use Rattle.entries.specs.Numbers.{codingOf}
 use Rattle.lists.specs.Walk.{nextIn, toldNextLocation}
 use Rattle.lists.proofs.Past.{listed-past}
 use Rattle.lists.proofs.CallLaws.{next-ahead}
@@ -14,11 +15,11 @@ use Rattle.lookups.proofs.found_from.Statement.{statement}
 use Rattle.lookups.proofs.found_from.Tie as tie
 
 abbrev Inv-loop : tie.InvT-loop
-Inv-loop section debug-addr debug-addr-base encoding endian locations split address walk₀ walk =
-    lookupFrom locations split encoding endian section debug-addr debug-addr-base address walk₀ ≡ lookupFrom locations split encoding endian section debug-addr debug-addr-base address walk
+Inv-loop section debug-addr debug-addr-base encoding endian locations split by-table kinds address walk₀ walk =
+    lookupFrom locations (codingOf split by-table kinds) encoding endian section debug-addr debug-addr-base address walk₀ ≡ lookupFrom locations (codingOf split by-table kinds) encoding endian section debug-addr debug-addr-base address walk
 
 abbrev μ-loop : tie.MeasureT-loop
-μ-loop section debug-addr debug-addr-base encoding endian locations split address walk₀ walk = length section - walk .at
+μ-loop section debug-addr debug-addr-base encoding endian locations split by-table kinds address walk₀ walk = length section - walk .at
 
 loop-holds : tie.Need-loop-holds Inv-loop μ-loop
 loop-holds c = refl
@@ -33,25 +34,25 @@ holds-requires : tie.Need-holds-requires Inv-loop μ-loop
 holds-requires c κs = search needs
 
 returns : tie.Need-returns Inv-loop μ-loop
-returns c = sym (c .before .before .before .before .before .before .before .loop .inv ∙ held _ _ _ _ (let a = c .before .before .before .before .before .before .before .before .before .before .args in listed-past (a .locations) (a .split) (a .encoding) (a .endian) (a .section .now)) _ (c .before .before .before .before .before .before .before .before .before .before .pre) _ (sym (c .before .before .before .before .before .before .next .ensures) ∙ ap (λ r. nextIn (c .before .before .before .before .before .before .before .before .before .before .args .locations) (toldNextLocation r)) (c .before .before .before .before .location .given .1)) (sym (c .before .holds .ensures) ∙ c .if1 .taken))
+returns c = sym (c .before .before .before .before .before .before .before .loop .inv ∙ held _ _ _ _ (let a = c .before .before .before .before .before .before .before .before .before .before .before .args in listed-past (a .locations) (codingOf (a .split) (a .by-table) (a .kinds .now)) (a .encoding) (a .endian) (a .section .now)) _ (c .before .before .before .before .before .before .before .before .before .before .before .pre) _ (sym (c .before .before .before .before .before .before .next .ensures) ∙ ap (λ r. nextIn (c .before .before .before .before .before .before .before .before .before .before .before .args .locations) (toldNextLocation r)) (c .before .before .before .before .location .given .1)) (sym (c .before .holds .ensures) ∙ c .if1 .taken))
 
 loop-less : tie.Need-loop-less Inv-loop μ-loop
-loop-less c = omega (arith, next-ahead _ _ _ _ (let a = c .before .before .before .before .before .before .before .before .before .before .args in listed-past (a .locations) (a .split) (a .encoding) (a .endian) (a .section .now)) _ (c .before .before .before .before .before .before .before .before .before .before .pre) (sym (c .before .before .before .before .before .before .next .ensures) ∙ ap (λ r. nextIn (c .before .before .before .before .before .before .before .before .before .before .args .locations) (toldNextLocation r)) (c .before .before .before .before .location .given .1)))
+loop-less c = omega (arith, next-ahead _ _ _ _ (let a = c .before .before .before .before .before .before .before .before .before .before .before .args in listed-past (a .locations) (codingOf (a .split) (a .by-table) (a .kinds .now)) (a .encoding) (a .endian) (a .section .now)) _ (c .before .before .before .before .before .before .before .before .before .before .before .pre) (sym (c .before .before .before .before .before .before .next .ensures) ∙ ap (λ r. nextIn (c .before .before .before .before .before .before .before .before .before .before .before .args .locations) (toldNextLocation r)) (c .before .before .before .before .location .given .1)))
 
 loop-again : tie.Need-loop-again Inv-loop μ-loop
-loop-again c = c .before .before .before .before .before .before .before .loop .inv ∙ not-held _ _ _ _ (let a = c .before .before .before .before .before .before .before .before .before .before .args in listed-past (a .locations) (a .split) (a .encoding) (a .endian) (a .section .now)) _ (c .before .before .before .before .before .before .before .before .before .before .pre) _ (sym (c .before .before .before .before .before .before .next .ensures) ∙ ap (λ r. nextIn (c .before .before .before .before .before .before .before .before .before .before .args .locations) (toldNextLocation r)) (c .before .before .before .before .location .given .1)) (sym (c .before .holds .ensures) ∙ c .if1 .left)
+loop-again c = c .before .before .before .before .before .before .before .loop .inv ∙ not-held _ _ _ _ (let a = c .before .before .before .before .before .before .before .before .before .before .before .args in listed-past (a .locations) (codingOf (a .split) (a .by-table) (a .kinds .now)) (a .encoding) (a .endian) (a .section .now)) _ (c .before .before .before .before .before .before .before .before .before .before .before .pre) _ (sym (c .before .before .before .before .before .before .next .ensures) ∙ ap (λ r. nextIn (c .before .before .before .before .before .before .before .before .before .before .before .args .locations) (toldNextLocation r)) (c .before .before .before .before .location .given .1)) (sym (c .before .holds .ensures) ∙ c .if1 .left)
 
 enum-told : tie.Need-enum-told Inv-loop μ-loop
 enum-told c = search needs
 
 returns-2 : tie.Need-returns-2 Inv-loop μ-loop
-returns-2 c = sym (c .before .before .before .loop .inv ∙ at-end _ _ _ _ (let a = c .before .before .before .before .before .before .args in listed-past (a .locations) (a .split) (a .encoding) (a .endian) (a .section .now)) _ (c .before .before .before .before .before .before .pre) _ (sym (c .before .before .next .ensures) ∙ ap (λ r. nextIn (c .before .before .before .before .before .before .args .locations) (toldNextLocation r)) (c .enum-told .given .1)))
+returns-2 c = sym (c .before .before .before .loop .inv ∙ at-end _ _ _ _ (let a = c .before .before .before .before .before .before .before .args in listed-past (a .locations) (codingOf (a .split) (a .by-table) (a .kinds .now)) (a .encoding) (a .endian) (a .section .now)) _ (c .before .before .before .before .before .before .before .pre) _ (sym (c .before .before .next .ensures) ∙ ap (λ r. nextIn (c .before .before .before .before .before .before .before .args .locations) (toldNextLocation r)) (c .enum-told .given .1)))
 
 enum-known-e : tie.Need-enum-known-e Inv-loop μ-loop
 enum-known-e c = search needs
 
 returns-3 : tie.Need-returns-3 Inv-loop μ-loop
-returns-3 c = sym (c .before .before .before .before .loop .inv ∙ at-refusal _ _ _ _ (let a = c .before .before .before .before .before .before .before .args in listed-past (a .locations) (a .split) (a .encoding) (a .endian) (a .section .now)) _ (c .before .before .before .before .before .before .before .pre) _ (sym (c .before .before .before .next .ensures) ∙ ap (λ r. nextIn (c .before .before .before .before .before .before .before .args .locations) (toldNextLocation r)) (c .before .e .given .1)))
+returns-3 c = sym (c .before .before .before .before .loop .inv ∙ at-refusal _ _ _ _ (let a = c .before .before .before .before .before .before .before .before .args in listed-past (a .locations) (codingOf (a .split) (a .by-table) (a .kinds .now)) (a .encoding) (a .endian) (a .section .now)) _ (c .before .before .before .before .before .before .before .before .pre) _ (sym (c .before .before .before .next .ensures) ∙ ap (λ r. nextIn (c .before .before .before .before .before .before .before .before .args .locations) (toldNextLocation r)) (c .before .e .given .1)))
 
 pub found-from-spec : {M : Type 1} → statement M
 found-from-spec =

@@ -294,7 +294,7 @@ fn compare_variable(counts: &mut Counts, dump: &HashMap<(usize, String), Dumped>
 fn compare(words: &[&str], split: &[&Path]) -> ExitCode {
     let [file, count, names, dump] = words else { panic!("FILE COUNT NAMES DUMP") };
     let addresses = addresses(file, count.parse().unwrap());
-    let program = Program::open(Path::new(file), split).unwrap_or_else(|wrong| panic!("{wrong}"));
+    let program = Program::open(Path::new(file), split, None).unwrap_or_else(|wrong| panic!("{wrong}"));
     let dump = if *dump == "-" { HashMap::new() } else { dumped(dump) };
     let [gnu, llvm] = [addr2line(names, &addresses), symbolizer(names, &addresses)];
     let mut counts = Counts::default();
@@ -443,7 +443,7 @@ fn short_lengths(address: u64, split: &[String], whole: &[String]) -> bool {
 fn twins(words: &[&str], split: &[&Path]) -> ExitCode {
     let [file, other, count, names] = words else { panic!("FILE OTHER COUNT NAMES") };
     let open =
-        |path: &str, split: &[&Path]| Program::open(Path::new(path), split).unwrap_or_else(|wrong| panic!("{wrong}"));
+        |path: &str, split: &[&Path]| Program::open(Path::new(path), split, None).unwrap_or_else(|wrong| panic!("{wrong}"));
     let (program, whole) = (open(file, split), open(other, &[]));
     let mut counts = Counts::default();
     let addresses = addresses(file, count.parse().unwrap());
@@ -487,9 +487,9 @@ fn twins(words: &[&str], split: &[&Path]) -> ExitCode {
 
 fn main() -> ExitCode {
     let words = std::env::args().skip(1).collect::<Vec<_>>();
-    let (plain, split) = command::split(&words).unwrap_or_else(|wrong| panic!("{wrong}"));
-    match plain[..] {
-        ["twins", ref rest @ ..] => twins(rest, &split),
-        ref rest => compare(rest, &split),
+    let words = command::sorted(&words).unwrap_or_else(|wrong| panic!("{wrong}"));
+    match words.plain[..] {
+        ["twins", ref rest @ ..] => twins(rest, &words.split),
+        ref rest => compare(rest, &words.split),
     }
 }

@@ -22,23 +22,23 @@ use Rattle.coverage.proofs.collect.cover_long.Reads as cover-long-reads
 use Rattle.canonical.proofs.of_list.+canonical_long.{statement}
 use Rattle.canonical.proofs.of_list.+canonical_long.Tie.{close}
 
-abbrev μ-canonical-long : Measures 5 canonical-long-kinds.ps ℕ
+abbrev μ-canonical-long : Measures 6 canonical-long-kinds.ps ℕ
 μ-canonical-long κs a = turns (a .0)
 
-abbrev canonical-long-at : ℕ → In 5 canonical-long-kinds.ps
+abbrev canonical-long-at : ℕ → In 6 canonical-long-kinds.ps
 canonical-long-at t =
     and
-    5
+    6
     canonical-long-kinds.ps
-    (is 5 canonical-long-kinds.ps μ-canonical-long t)
+    (is 6 canonical-long-kinds.ps μ-canonical-long t)
     canonical-long.Pre
 
-abbrev canonical-long-below : ℕ → In 5 canonical-long-kinds.ps
+abbrev canonical-long-below : ℕ → In 6 canonical-long-kinds.ps
 canonical-long-below t =
     and
-    5
+    6
     canonical-long-kinds.ps
-    (falls 5 canonical-long-kinds.ps _<_ μ-canonical-long t)
+    (falls 6 canonical-long-kinds.ps _<_ μ-canonical-long t)
     canonical-long.Pre
 
 canonical-long-canonical-long-requires : (t : ℕ) → canonical-long-lts.Need-canonical-long-requires (
@@ -49,7 +49,7 @@ canonical-long-canonical-long-requires : (t : ℕ) → canonical-long-lts.Need-c
   put-list-reads.Asked,
   put-list-reads.Learnt,
 ) (canonical-long-at t) canonical-long.Post
-canonical-long-canonical-long-requires t c κs = let e = ap turns (c .before .if1 .taken) in (omega (arith, e, c .before .before .before .before .before .pre .0), tt)
+canonical-long-canonical-long-requires t c κs = let e = ap turns (c .before .if1 .taken) in (omega (arith, e, c .before .before .before .before .before .before .pre .0), tt)
 
 canonical-long-same-length : (t : ℕ) → canonical-long-lts.Need-same-length (
   canonical-long-below t,
@@ -122,10 +122,10 @@ canonical-long-put-list-requires : (t : ℕ) → canonical-long-lts.Need-put-lis
   put-list-reads.Learnt,
 ) (canonical-long-at t) canonical-long.Post
 canonical-long-put-list-requires t c κs =
-    let a = c .before .before .before .before .before .before .before .before .before .before .before .before .before .args in
+    let a = c .before .before .before .before .before .before .before .before .before .before .before .before .before .before .args in
     let g = c .before .before .before .before .before .before .cover-long .ensures in
     let l = length-take short (paired (a .first-begins .now) (a .first-ends .now)) in
-    list-arrays (firsts short (a .first-begins .now) (a .first-ends .now)) (limit - short) (source (holding (a .locations) (a .split)) (a .encoding) (a .endian) (a .section .now) (a .offset .0) (a .base-address) (a .debug-addr .now) (a .debug-addr-base)) _ _ _ (g .0) (omega (arith, l)) (omega (arith, l, g .1 .0)) (g .1 .1 ∙ sym (g .1 .0)) (c .before .before .before .before .n .given .1)
+    list-arrays (firsts short (a .first-begins .now) (a .first-ends .now)) (limit - short) (source (holding (a .locations) (a .split) (a .by-table) (a .kinds .now)) (a .encoding) (a .endian) (a .section .now) (a .offset .0) (a .base-address) (a .debug-addr .now) (a .debug-addr-base)) _ _ _ (g .0) (omega (arith, l)) (omega (arith, l, g .1 .0)) (g .1 .1 ∙ sym (g .1 .0)) (c .before .before .before .before .n .given .1)
 
 canonical-long-enum-told : (t : ℕ) → canonical-long-lts.Need-enum-told (
   canonical-long-below t,
@@ -166,9 +166,9 @@ canonical-long-returns-2 : (t : ℕ) → canonical-long-lts.Need-returns-2 (
   put-list-reads.Learnt,
 ) (canonical-long-at t) canonical-long.Post
 canonical-long-returns-2 t c =
-    let a = c .before .before .before .before .before .before .before .before .before .before .before .before .before .before .before .before .args in
+    let a = c .before .before .before .before .before .before .before .before .before .before .before .before .before .before .before .before .before .args in
     let g = c .before .before .before .before .before .before .before .before .before .cover-long .ensures in
-    list-put (orTooMany (coverageWithin (firsts short (a .first-begins .now) (a .first-ends .now)) (limit - short) (source (holding (a .locations) (a .split)) (a .encoding) (a .endian) (a .section .now) (a .offset .0) (a .base-address) (a .debug-addr .now) (a .debug-addr-base)))) (a .out .now) (c .before .before .put-list .result) (told-all (firsts short (a .first-begins .now) (a .first-ends .now)) (limit - short) (source (holding (a .locations) (a .split)) (a .encoding) (a .endian) (a .section .now) (a .offset .0) (a .base-address) (a .debug-addr .now) (a .debug-addr-base)) _ _ _ (g .0) (c .before .before .before .before .before .before .before .n .given .1)) (c .before .before .put-list .ensures)
+    list-put (orTooMany (coverageWithin (firsts short (a .first-begins .now) (a .first-ends .now)) (limit - short) (source (holding (a .locations) (a .split) (a .by-table) (a .kinds .now)) (a .encoding) (a .endian) (a .section .now) (a .offset .0) (a .base-address) (a .debug-addr .now) (a .debug-addr-base)))) (a .out .now) (c .before .before .put-list .result) (told-all (firsts short (a .first-begins .now) (a .first-ends .now)) (limit - short) (source (holding (a .locations) (a .split) (a .by-table) (a .kinds .now)) (a .encoding) (a .endian) (a .section .now) (a .offset .0) (a .base-address) (a .debug-addr .now) (a .debug-addr-base)) _ _ _ (g .0) (c .before .before .before .before .before .before .before .n .given .1)) (c .before .before .put-list .ensures)
 
 canonical-long-returns-3 : (t : ℕ) → canonical-long-lts.Need-returns-3 (
   canonical-long-below t,
@@ -179,8 +179,8 @@ canonical-long-returns-3 : (t : ℕ) → canonical-long-lts.Need-returns-3 (
   put-list-reads.Learnt,
 ) (canonical-long-at t) canonical-long.Post
 canonical-long-returns-3 t c =
-    let a = c .before .before .before .before .before .before .before .before .before .args in
-    list-refused (orTooMany (coverageWithin (firsts short (a .first-begins .now) (a .first-ends .now)) (limit - short) (source (holding (a .locations) (a .split)) (a .encoding) (a .endian) (a .section .now) (a .offset .0) (a .base-address) (a .debug-addr .now) (a .debug-addr-base)))) (a .out .now) TooManyRanges (told-full (firsts short (a .first-begins .now) (a .first-ends .now)) (limit - short) (source (holding (a .locations) (a .split)) (a .encoding) (a .endian) (a .section .now) (a .offset .0) (a .base-address) (a .debug-addr .now) (a .debug-addr-base)) _ _ _ (c .before .before .cover-long .ensures .0) (c .enum-told .given .1))
+    let a = c .before .before .before .before .before .before .before .before .before .before .args in
+    list-refused (orTooMany (coverageWithin (firsts short (a .first-begins .now) (a .first-ends .now)) (limit - short) (source (holding (a .locations) (a .split) (a .by-table) (a .kinds .now)) (a .encoding) (a .endian) (a .section .now) (a .offset .0) (a .base-address) (a .debug-addr .now) (a .debug-addr-base)))) (a .out .now) TooManyRanges (told-full (firsts short (a .first-begins .now) (a .first-ends .now)) (limit - short) (source (holding (a .locations) (a .split) (a .by-table) (a .kinds .now)) (a .encoding) (a .endian) (a .section .now) (a .offset .0) (a .base-address) (a .debug-addr .now) (a .debug-addr-base)) _ _ _ (c .before .before .cover-long .ensures .0) (c .enum-told .given .1))
 
 canonical-long-returns-4 : (t : ℕ) → canonical-long-lts.Need-returns-4 (
   canonical-long-below t,
@@ -191,8 +191,8 @@ canonical-long-returns-4 : (t : ℕ) → canonical-long-lts.Need-returns-4 (
   put-list-reads.Learnt,
 ) (canonical-long-at t) canonical-long.Post
 canonical-long-returns-4 t c =
-    let a = c .before .before .before .before .before .before .before .before .before .before .args in
-    list-refused (orTooMany (coverageWithin (firsts short (a .first-begins .now) (a .first-ends .now)) (limit - short) (source (holding (a .locations) (a .split)) (a .encoding) (a .endian) (a .section .now) (a .offset .0) (a .base-address) (a .debug-addr .now) (a .debug-addr-base)))) (a .out .now) (c .before .error .given .0 .0) (told-refused (firsts short (a .first-begins .now) (a .first-ends .now)) (limit - short) (source (holding (a .locations) (a .split)) (a .encoding) (a .endian) (a .section .now) (a .offset .0) (a .base-address) (a .debug-addr .now) (a .debug-addr-base)) _ _ _ (c .before .before .before .cover-long .ensures .0) (c .before .error .given .0 .0) (c .before .error .given .1))
+    let a = c .before .before .before .before .before .before .before .before .before .before .before .args in
+    list-refused (orTooMany (coverageWithin (firsts short (a .first-begins .now) (a .first-ends .now)) (limit - short) (source (holding (a .locations) (a .split) (a .by-table) (a .kinds .now)) (a .encoding) (a .endian) (a .section .now) (a .offset .0) (a .base-address) (a .debug-addr .now) (a .debug-addr-base)))) (a .out .now) (c .before .error .given .0 .0) (told-refused (firsts short (a .first-begins .now) (a .first-ends .now)) (limit - short) (source (holding (a .locations) (a .split) (a .by-table) (a .kinds .now)) (a .encoding) (a .endian) (a .section .now) (a .offset .0) (a .base-address) (a .debug-addr .now) (a .debug-addr-base)) _ _ _ (c .before .before .before .cover-long .ensures .0) (c .before .error .given .0 .0) (c .before .error .given .1))
 
 pub +canonical-long-spec : {M : Type 1} → statement M
 +canonical-long-spec = close μ-canonical-long λ t. canonical-long-lts.spec (

@@ -22,16 +22,16 @@ enum-known-start : tie.Need-enum-known-start
 enum-known-start c = search needs
 
 gather-requires : tie.Need-gather-requires
-gather-requires c κs = (opened-size _ _ _ _ (sym (c .before .before .before .before .before .ranges .ensures) ∙ ap toldOpened (c .before .before .before .start .given .1)), c .before .before .before .before .before .before .before .before .before .before .pre)
+gather-requires c κs = (opened-size _ _ _ _ (sym (c .before .before .before .before .before .ranges .ensures) ∙ ap toldOpened (c .before .before .before .start .given .1)), c .before .before .before .before .before .before .before .before .before .before .before .pre)
 
 enum-known-n : tie.Need-enum-known-n
 enum-known-n c = search needs
 
 to-runs-requires : tie.Need-to-runs-requires
 to-runs-requires c κs =
-    let a = c .before .before .before .before .before .before .before .before .before .before .before .before .before .before .before .before .before .before .before .before .args in
-    let p = c .before .before .before .before .before .before .before .before .before .before .before .before .before .before .before .before .before .before .before .before .pre in
-    let f = gathered-few (firsts (a .done) (a .begins .now) (a .ends .now)) (length (a .begins .now) - a .done) (a .split) (a .encoding) (a .endian) (a .section .now) (a .offset) (a .base-address) (a .debug-addr .now) (a .debug-addr-base) (sym (c .before .before .before .before .before .before .before .before .before .before .before .before .before .before .before .ranges .ensures) ∙ ap toldOpened (c .before .before .before .before .before .before .before .before .before .before .before .before .before .start .given .1)) (a .locations) _ _ _ (c .before .before .before .before .before .before .before .before .before .gather .ensures .0) (c .before .before .before .n .given .1) in
+    let a = c .before .before .before .before .before .before .before .before .before .before .before .before .before .before .before .before .before .before .before .before .before .args in
+    let p = c .before .before .before .before .before .before .before .before .before .before .before .before .before .before .before .before .before .before .before .before .before .pre in
+    let f = gathered-few (firsts (a .done) (a .begins .now) (a .ends .now)) (length (a .begins .now) - a .done) (a .split) (a .by-table) (a .kinds .now) (a .encoding) (a .endian) (a .section .now) (a .offset) (a .base-address) (a .debug-addr .now) (a .debug-addr-base) (sym (c .before .before .before .before .before .before .before .before .before .before .before .before .before .before .before .ranges .ensures) ∙ ap toldOpened (c .before .before .before .before .before .before .before .before .before .before .before .before .before .start .given .1)) (a .locations) _ _ _ (c .before .before .before .before .before .before .before .before .before .gather .ensures .0) (c .before .before .before .n .given .1) in
     let z = c .before .before .before .before .before .before .before .before .before .gather .ensures .1 in
     (omega (arith, f, length-take (a .done) (paired (a .begins .now) (a .ends .now)), p .0, z .0), (refl, z .1 ∙ sym (z .0)))
 
@@ -43,8 +43,8 @@ enum-known-e-2 c = search needs
 
 returns : tie.Need-returns
 returns c =
-    let a = c .before .before .before .before .before .before .before .before .args in
-    (cover-refused (firsts (a .done) (a .begins .now) (a .ends .now)) (length (a .begins .now) - a .done) (source (holding (a .locations) (a .split)) (a .encoding) (a .endian) (a .section .now) (a .offset) (a .base-address) (a .debug-addr .now) (a .debug-addr-base)) (c .before .e .given .0 .0) (a .begins .now) (a .ends .now) (sym (c .before .before .before .ranges .ensures) ∙ ap toldOpened (c .before .e .given .1)), c .before .before .before .before .before .before .before .before .pre .2)
+    let a = c .before .before .before .before .before .before .before .before .before .args in
+    (cover-refused (firsts (a .done) (a .begins .now) (a .ends .now)) (length (a .begins .now) - a .done) (source (holding (a .locations) (a .split) (a .by-table) (a .kinds .now)) (a .encoding) (a .endian) (a .section .now) (a .offset) (a .base-address) (a .debug-addr .now) (a .debug-addr-base)) (c .before .e .given .0 .0) (a .begins .now) (a .ends .now) (sym (c .before .before .before .ranges .ensures) ∙ ap toldOpened (c .before .e .given .1)), c .before .before .before .before .before .before .before .before .before .pre .2)
 
 same-length : tie.Need-same-length
 same-length c = search needs
@@ -54,12 +54,12 @@ same-length-2 c = search needs
 
 returns-2 : tie.Need-returns-2
 returns-2 c =
-    let a = c .before .before .before .before .before .before .before .before .before .before .before .before .before .before .before .before .before .before .before .before .before .before .before .before .before .args in
-    let p = c .before .before .before .before .before .before .before .before .before .before .before .before .before .before .before .before .before .before .before .before .before .before .before .before .before .pre in
+    let a = c .before .before .before .before .before .before .before .before .before .before .before .before .before .before .before .before .before .before .before .before .before .before .before .before .before .before .args in
+    let p = c .before .before .before .before .before .before .before .before .before .before .before .before .before .before .before .before .before .before .before .before .before .before .before .before .before .before .pre in
     let z = c .before .before .before .before .before .before .before .before .before .before .before .before .before .before .gather .ensures .1 in
-    let f = gathered-few (firsts (a .done) (a .begins .now) (a .ends .now)) (length (a .begins .now) - a .done) (a .split) (a .encoding) (a .endian) (a .section .now) (a .offset) (a .base-address) (a .debug-addr .now) (a .debug-addr-base) (sym (c .before .before .before .before .before .before .before .before .before .before .before .before .before .before .before .before .before .before .before .before .ranges .ensures) ∙ ap toldOpened (c .before .before .before .before .before .before .before .before .before .before .before .before .before .before .before .before .before .before .start .given .1)) (a .locations) _ _ _ (c .before .before .before .before .before .before .before .before .before .before .before .before .before .before .gather .ensures .0) (c .before .before .before .before .before .before .before .before .n .given .1) in
+    let f = gathered-few (firsts (a .done) (a .begins .now) (a .ends .now)) (length (a .begins .now) - a .done) (a .split) (a .by-table) (a .kinds .now) (a .encoding) (a .endian) (a .section .now) (a .offset) (a .base-address) (a .debug-addr .now) (a .debug-addr-base) (sym (c .before .before .before .before .before .before .before .before .before .before .before .before .before .before .before .before .before .before .before .before .ranges .ensures) ∙ ap toldOpened (c .before .before .before .before .before .before .before .before .before .before .before .before .before .before .before .before .before .before .start .given .1)) (a .locations) _ _ _ (c .before .before .before .before .before .before .before .before .before .before .before .before .before .before .gather .ensures .0) (c .before .before .before .before .before .before .before .before .n .given .1) in
     let h = length-take (a .done) (paired (a .begins .now) (a .ends .now)) in
-    (cover-got (firsts (a .done) (a .begins .now) (a .ends .now)) (length (a .begins .now) - a .done) (a .split) (a .encoding) (a .endian) (a .section .now) (a .offset) (a .base-address) (a .debug-addr .now) (a .debug-addr-base) (sym (c .before .before .before .before .before .before .before .before .before .before .before .before .before .before .before .before .before .before .before .before .ranges .ensures) ∙ ap toldOpened (c .before .before .before .before .before .before .before .before .before .before .before .before .before .before .before .before .before .before .start .given .1)) (a .locations) _ _ _ (c .before .before .before .before .before .before .before .before .before .before .before .before .before .before .gather .ensures .0) _ _ (c .before .before .before .before .before .before .before .before .n .given .1) (omega (arith, f, h, p .0, z .0), omega (arith, f, h, p .0, z .1)) (c .before .before .before .before .to-runs .ensures), let r = c .before .before .before .before .to-runs .ensures .sized in (r .0 ∙ z .0, r .1 ∙ z .0))
+    (cover-got (firsts (a .done) (a .begins .now) (a .ends .now)) (length (a .begins .now) - a .done) (a .split) (a .by-table) (a .kinds .now) (a .encoding) (a .endian) (a .section .now) (a .offset) (a .base-address) (a .debug-addr .now) (a .debug-addr-base) (sym (c .before .before .before .before .before .before .before .before .before .before .before .before .before .before .before .before .before .before .before .before .ranges .ensures) ∙ ap toldOpened (c .before .before .before .before .before .before .before .before .before .before .before .before .before .before .before .before .before .before .start .given .1)) (a .locations) _ _ _ (c .before .before .before .before .before .before .before .before .before .before .before .before .before .before .gather .ensures .0) _ _ (c .before .before .before .before .before .before .before .before .n .given .1) (omega (arith, f, h, p .0, z .0), omega (arith, f, h, p .0, z .1)) (c .before .before .before .before .to-runs .ensures), let r = c .before .before .before .before .to-runs .ensures .sized in (r .0 ∙ z .0, r .1 ∙ z .0))
 
 same-length-3 : tie.Need-same-length-3
 same-length-3 c = search needs
@@ -69,8 +69,8 @@ same-length-4 c = search needs
 
 returns-3 : tie.Need-returns-3
 returns-3 c =
-    let a = c .before .before .before .before .before .before .before .before .before .before .before .before .before .before .before .before .before .before .args in
-    (cover-full (firsts (a .done) (a .begins .now) (a .ends .now)) (length (a .begins .now) - a .done) (a .split) (a .encoding) (a .endian) (a .section .now) (a .offset) (a .base-address) (a .debug-addr .now) (a .debug-addr-base) (sym (c .before .before .before .before .before .before .before .before .before .before .before .before .before .ranges .ensures) ∙ ap toldOpened (c .before .before .before .before .before .before .before .before .before .before .before .start .given .1)) (a .locations) _ _ _ (c .before .before .before .before .before .before .before .gather .ensures .0) (c .before .walk .given .1), c .before .before .before .before .before .before .before .gather .ensures .1)
+    let a = c .before .before .before .before .before .before .before .before .before .before .before .before .before .before .before .before .before .before .before .args in
+    (cover-full (firsts (a .done) (a .begins .now) (a .ends .now)) (length (a .begins .now) - a .done) (a .split) (a .by-table) (a .kinds .now) (a .encoding) (a .endian) (a .section .now) (a .offset) (a .base-address) (a .debug-addr .now) (a .debug-addr-base) (sym (c .before .before .before .before .before .before .before .before .before .before .before .before .before .ranges .ensures) ∙ ap toldOpened (c .before .before .before .before .before .before .before .before .before .before .before .start .given .1)) (a .locations) _ _ _ (c .before .before .before .before .before .before .before .gather .ensures .0) (c .before .walk .given .1), c .before .before .before .before .before .before .before .gather .ensures .1)
 
 same-length-5 : tie.Need-same-length-5
 same-length-5 c = search needs
@@ -80,8 +80,8 @@ same-length-6 c = search needs
 
 returns-4 : tie.Need-returns-4
 returns-4 c =
-    let a = c .before .before .before .before .before .before .before .before .before .before .before .before .before .before .before .before .before .before .args in
-    (cover-lost (firsts (a .done) (a .begins .now) (a .ends .now)) (length (a .begins .now) - a .done) (a .split) (a .encoding) (a .endian) (a .section .now) (a .offset) (a .base-address) (a .debug-addr .now) (a .debug-addr-base) (sym (c .before .before .before .before .before .before .before .before .before .before .before .before .before .ranges .ensures) ∙ ap toldOpened (c .before .before .before .before .before .before .before .before .before .before .before .start .given .1)) (a .locations) _ _ _ (c .before .before .before .before .before .before .before .gather .ensures .0) (c .before .e2 .given .0 .0) (c .before .e2 .given .1), c .before .before .before .before .before .before .before .gather .ensures .1)
+    let a = c .before .before .before .before .before .before .before .before .before .before .before .before .before .before .before .before .before .before .before .args in
+    (cover-lost (firsts (a .done) (a .begins .now) (a .ends .now)) (length (a .begins .now) - a .done) (a .split) (a .by-table) (a .kinds .now) (a .encoding) (a .endian) (a .section .now) (a .offset) (a .base-address) (a .debug-addr .now) (a .debug-addr-base) (sym (c .before .before .before .before .before .before .before .before .before .before .before .before .before .ranges .ensures) ∙ ap toldOpened (c .before .before .before .before .before .before .before .before .before .before .before .start .given .1)) (a .locations) _ _ _ (c .before .before .before .before .before .before .before .gather .ensures .0) (c .before .e2 .given .0 .0) (c .before .e2 .given .1), c .before .before .before .before .before .before .before .gather .ensures .1)
 
 pub cover-spec : {M : Type 1} → statement M
 cover-spec =

@@ -22,8 +22,8 @@ cover-requires c κs = search needs
 
 returns : tie.Need-returns
 returns c =
-    let a = c .before .before .before .before .before .before .before .before .before .before .before .args in
-    let x = source (holding (a .locations) (a .split)) (a .encoding) (a .endian) (a .section .now) (a .offset .0) (a .base-address) (a .debug-addr .now) (a .debug-addr-base) in
+    let a = c .before .before .before .before .before .before .before .before .before .before .before .before .args in
+    let x = source (holding (a .locations) (a .split) (a .by-table) (a .kinds .now)) (a .encoding) (a .endian) (a .section .now) (a .offset .0) (a .base-address) (a .debug-addr .now) (a .debug-addr-base) in
     let b = c .before .before .before .before .before .before .copy .ensures in
     let e = c .before .before .before .copy2 .ensures in
     let h = c .before .before .cover-arg .given in

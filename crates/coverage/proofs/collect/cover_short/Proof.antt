@@ -13,8 +13,8 @@ cover-requires c κs = search needs
 
 returns : tie.Need-returns
 returns c =
-    let l : length (c .before .before .before .before .before .args .begins .now) ≡ short = omega (arith, c .before .before .cover-arg .given) in
-    let r : length (c .before .before .before .before .before .args .begins .now) - 0 ≡ short = omega (arith, l) in
+    let l : length (c .before .before .before .before .before .before .args .begins .now) ≡ short = omega (arith, c .before .before .cover-arg .given) in
+    let r : length (c .before .before .before .before .before .before .args .begins .now) - 0 ≡ short = omega (arith, l) in
     (rw r at (c .cover .ensures .0), rw l at (c .cover .ensures .1))
 
 pub cover-short-spec : {M : Type 1} → statement M

@@ -22,16 +22,16 @@ use Rattle.coverage.proofs.place.put_front.Reads as put-front-reads
 use Rattle.coverage.proofs.place.+runs_long.{statement}
 use Rattle.coverage.proofs.place.+runs_long.Tie.{close}
 
-abbrev μ-runs-long : Measures 6 runs-long-kinds.ps ℕ
+abbrev μ-runs-long : Measures 7 runs-long-kinds.ps ℕ
 μ-runs-long κs a = turns (a .0)
 
-abbrev runs-long-at : ℕ → In 6 runs-long-kinds.ps
+abbrev runs-long-at : ℕ → In 7 runs-long-kinds.ps
 runs-long-at t =
-    and 6 runs-long-kinds.ps (is 6 runs-long-kinds.ps μ-runs-long t) runs-long.Pre
+    and 7 runs-long-kinds.ps (is 7 runs-long-kinds.ps μ-runs-long t) runs-long.Pre
 
-abbrev runs-long-below : ℕ → In 6 runs-long-kinds.ps
+abbrev runs-long-below : ℕ → In 7 runs-long-kinds.ps
 runs-long-below t =
-    and 6 runs-long-kinds.ps (falls 6 runs-long-kinds.ps _<_ μ-runs-long t) runs-long.Pre
+    and 7 runs-long-kinds.ps (falls 7 runs-long-kinds.ps _<_ μ-runs-long t) runs-long.Pre
 
 runs-long-runs-long-requires : (t : ℕ) → runs-long-lts.Need-runs-long-requires (
   runs-long-below t,
@@ -41,7 +41,7 @@ runs-long-runs-long-requires : (t : ℕ) → runs-long-lts.Need-runs-long-requir
   put-front-reads.Asked,
   put-front-reads.Learnt,
 ) (runs-long-at t) runs-long.Post
-runs-long-runs-long-requires t c κs = let e = ap turns (c .before .before .if1 .taken) in (omega (arith, e, c .before .before .before .before .before .before .before .pre .0), tt)
+runs-long-runs-long-requires t c κs = let e = ap turns (c .before .before .if1 .taken) in (omega (arith, e, c .before .before .before .before .before .before .before .before .pre .0), tt)
 
 runs-long-same-length : (t : ℕ) → runs-long-lts.Need-same-length (
   runs-long-below t,
@@ -122,9 +122,9 @@ runs-long-put-front-requires : (t : ℕ) → runs-long-lts.Need-put-front-requir
   put-front-reads.Learnt,
 ) (runs-long-at t) runs-long.Post
 runs-long-put-front-requires t c κs =
-    let a = c .before .before .before .before .before .before .before .before .before .before .before .before .before .before .before .args in
+    let a = c .before .before .before .before .before .before .before .before .before .before .before .before .before .before .before .before .args in
     let g = c .before .before .before .before .before .before .before .cover-long .ensures in
-    let f = told-few (firsts short (a .first-begins .now) (a .first-ends .now)) (limit - short) (source (holding (a .locations) (a .split)) (a .encoding) (a .endian) (a .section .now) (a .offset .0) (a .base-address) (a .debug-addr .now) (a .debug-addr-base)) _ _ _ (g .0) (c .before .before .before .before .before .n .given .1) in
+    let f = told-few (firsts short (a .first-begins .now) (a .first-ends .now)) (limit - short) (source (holding (a .locations) (a .split) (a .by-table) (a .kinds .now)) (a .encoding) (a .endian) (a .section .now) (a .offset .0) (a .base-address) (a .debug-addr .now) (a .debug-addr-base)) _ _ _ (g .0) (c .before .before .before .before .before .n .given .1) in
     let l = length-take short (paired (a .first-begins .now) (a .first-ends .now)) in
     (omega (arith, f, l, g .1 .0), omega (arith, f, l, g .1 .1))
 
@@ -177,10 +177,10 @@ runs-long-returns-2 : (t : ℕ) → runs-long-lts.Need-returns-2 (
   put-front-reads.Learnt,
 ) (runs-long-at t) runs-long.Post
 runs-long-returns-2 t c =
-    let a = c .before .before .before .before .before .before .before .before .before .before .before .before .before .before .before .before .before .before .before .before .args in
+    let a = c .before .before .before .before .before .before .before .before .before .before .before .before .before .before .before .before .before .before .before .before .before .args in
     let g = c .before .before .before .before .before .before .before .before .before .before .before .before .cover-long .ensures in
     let q = c .before .before .before .before .before .before .before .before .before .before .n .given .1 in
-    front-got _ _ _ (told-all (firsts short (a .first-begins .now) (a .first-ends .now)) (limit - short) (source (holding (a .locations) (a .split)) (a .encoding) (a .endian) (a .section .now) (a .offset .0) (a .base-address) (a .debug-addr .now) (a .debug-addr-base)) _ _ _ (g .0) q) (c .before .before .before .before .put-front .ensures)
+    front-got _ _ _ (told-all (firsts short (a .first-begins .now) (a .first-ends .now)) (limit - short) (source (holding (a .locations) (a .split) (a .by-table) (a .kinds .now)) (a .encoding) (a .endian) (a .section .now) (a .offset .0) (a .base-address) (a .debug-addr .now) (a .debug-addr-base)) _ _ _ (g .0) q) (c .before .before .before .before .put-front .ensures)
 
 runs-long-returns-3 : (t : ℕ) → runs-long-lts.Need-returns-3 (
   runs-long-below t,
@@ -191,8 +191,8 @@ runs-long-returns-3 : (t : ℕ) → runs-long-lts.Need-returns-3 (
   put-front-reads.Learnt,
 ) (runs-long-at t) runs-long.Post
 runs-long-returns-3 t c =
-    let a = c .before .before .before .before .before .before .before .before .before .before .args in
-    front-refused _ _ _ TooManyRanges (told-full (firsts short (a .first-begins .now) (a .first-ends .now)) (limit - short) (source (holding (a .locations) (a .split)) (a .encoding) (a .endian) (a .section .now) (a .offset .0) (a .base-address) (a .debug-addr .now) (a .debug-addr-base)) _ _ _ (c .before .before .cover-long .ensures .0) (c .enum-told .given .1))
+    let a = c .before .before .before .before .before .before .before .before .before .before .before .args in
+    front-refused _ _ _ TooManyRanges (told-full (firsts short (a .first-begins .now) (a .first-ends .now)) (limit - short) (source (holding (a .locations) (a .split) (a .by-table) (a .kinds .now)) (a .encoding) (a .endian) (a .section .now) (a .offset .0) (a .base-address) (a .debug-addr .now) (a .debug-addr-base)) _ _ _ (c .before .before .cover-long .ensures .0) (c .enum-told .given .1))
 
 runs-long-returns-4 : (t : ℕ) → runs-long-lts.Need-returns-4 (
   runs-long-below t,
@@ -203,8 +203,8 @@ runs-long-returns-4 : (t : ℕ) → runs-long-lts.Need-returns-4 (
   put-front-reads.Learnt,
 ) (runs-long-at t) runs-long.Post
 runs-long-returns-4 t c =
-    let a = c .before .before .before .before .before .before .before .before .before .before .before .args in
-    front-refused _ _ _ (c .before .e .given .0 .0) (told-refused (firsts short (a .first-begins .now) (a .first-ends .now)) (limit - short) (source (holding (a .locations) (a .split)) (a .encoding) (a .endian) (a .section .now) (a .offset .0) (a .base-address) (a .debug-addr .now) (a .debug-addr-base)) _ _ _ (c .before .before .before .cover-long .ensures .0) (c .before .e .given .0 .0) (c .before .e .given .1))
+    let a = c .before .before .before .before .before .before .before .before .before .before .before .before .args in
+    front-refused _ _ _ (c .before .e .given .0 .0) (told-refused (firsts short (a .first-begins .now) (a .first-ends .now)) (limit - short) (source (holding (a .locations) (a .split) (a .by-table) (a .kinds .now)) (a .encoding) (a .endian) (a .section .now) (a .offset .0) (a .base-address) (a .debug-addr .now) (a .debug-addr-base)) _ _ _ (c .before .before .before .cover-long .ensures .0) (c .before .e .given .0 .0) (c .before .e .given .1))
 
 pub +runs-long-spec : {M : Type 1} → statement M
 +runs-long-spec = close μ-runs-long λ t. runs-long-lts.spec (

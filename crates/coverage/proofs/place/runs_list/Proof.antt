@@ -27,9 +27,9 @@ slice-aggregate-put-front-2 c = sym (c .before .before .before .before .before .
 
 put-front-requires : tie.Need-put-front-requires
 put-front-requires c κs =
-    let a = c .before .before .before .before .before .before .before .before .before .before .before .before .before .before .args in
+    let a = c .before .before .before .before .before .before .before .before .before .before .before .before .before .before .before .args in
     let g = c .before .before .before .before .before .before .before .cover-short .ensures in
-    let f = told-few [] short (source (holding (a .locations) (a .split)) (a .encoding) (a .endian) (a .section .now) (a .offset .0) (a .base-address) (a .debug-addr .now) (a .debug-addr-base)) _ _ _ (g .0) (c .before .before .before .before .before .n .given .1) in
+    let f = told-few [] short (source (holding (a .locations) (a .split) (a .by-table) (a .kinds .now)) (a .encoding) (a .endian) (a .section .now) (a .offset .0) (a .base-address) (a .debug-addr .now) (a .debug-addr-base)) _ _ _ (g .0) (c .before .before .before .before .before .n .given .1) in
     (omega (arith, f, g .1 .0), omega (arith, f, g .1 .1))
 
 enum-known-walk : tie.Need-enum-known-walk
@@ -49,11 +49,11 @@ same-length-2 c = search needs
 
 returns : tie.Need-returns
 returns c =
-    let a = c .before .before .before .before .before .before .before .before .before .before .before .before .before .before .before .before .before .before .before .args in
+    let a = c .before .before .before .before .before .before .before .before .before .before .before .before .before .before .before .before .before .before .before .before .args in
     let g = c .before .before .before .before .before .before .before .before .before .before .before .before .cover-short .ensures in
     let q = c .before .before .before .before .before .before .before .before .before .before .n .given .1 in
     front-got _ _ _
-    (short-all (source (holding (a .locations) (a .split)) (a .encoding) (a .endian) (a .section .now) (a .offset .0) (a .base-address) (a .debug-addr .now) (a .debug-addr-base)) (record { section = λ i. omega (arith, c .before .before .before .before .before .before .before .before .before .before .before .before .before .before .before .before .before .before .shared-slice-known .given i); table = λ i. omega (arith, c .before .before .before .before .before .before .before .before .before .before .before .before .before .before .before .before .before .shared-slice-known2 .given i) }) _ _ _ (g .0) q)
+    (short-all (source (holding (a .locations) (a .split) (a .by-table) (a .kinds .now)) (a .encoding) (a .endian) (a .section .now) (a .offset .0) (a .base-address) (a .debug-addr .now) (a .debug-addr-base)) (record { section = λ i. omega (arith, c .before .before .before .before .before .before .before .before .before .before .before .before .before .before .before .before .before .before .before .shared-slice-known .given i); table = λ i. omega (arith, c .before .before .before .before .before .before .before .before .before .before .before .before .before .before .before .before .before .before .shared-slice-known2 .given i) }) _ _ _ (g .0) q)
     (c .before .before .before .before .put-front .ensures)
 
 same-length-3 : tie.Need-same-length-3
@@ -64,16 +64,16 @@ same-length-4 c = search needs
 
 returns-2 : tie.Need-returns-2
 returns-2 c =
-    let a = c .before .before .before .before .before .before .before .before .before .before .before .before .before .before .before .before .before .before .before .args in
+    let a = c .before .before .before .before .before .before .before .before .before .before .before .before .before .before .before .before .before .before .before .before .args in
     let g = c .before .before .before .before .before .before .before .before .before .before .before .before .cover-short .ensures in
     c .before .before .before .before .runs-long .ensures
     ∙ ap (λ (r : Result (List Range)). putting r (a .begins .now) (a .ends .now))
-    (sym (short-full (source (holding (a .locations) (a .split)) (a .encoding) (a .endian) (a .section .now) (a .offset .0) (a .base-address) (a .debug-addr .now) (a .debug-addr-base)) (record { section = λ i. omega (arith, c .before .before .before .before .before .before .before .before .before .before .before .before .before .before .before .before .before .before .shared-slice-known .given i); table = λ i. omega (arith, c .before .before .before .before .before .before .before .before .before .before .before .before .before .before .before .before .before .shared-slice-known2 .given i) }) _ _ _ (g .0) (g .1 .0) (c .before .before .before .before .before .before .before .before .before .before .walk .given .1)))
+    (sym (short-full (source (holding (a .locations) (a .split) (a .by-table) (a .kinds .now)) (a .encoding) (a .endian) (a .section .now) (a .offset .0) (a .base-address) (a .debug-addr .now) (a .debug-addr-base)) (record { section = λ i. omega (arith, c .before .before .before .before .before .before .before .before .before .before .before .before .before .before .before .before .before .before .before .shared-slice-known .given i); table = λ i. omega (arith, c .before .before .before .before .before .before .before .before .before .before .before .before .before .before .before .before .before .before .shared-slice-known2 .given i) }) _ _ _ (g .0) (g .1 .0) (c .before .before .before .before .before .before .before .before .before .before .walk .given .1)))
 
 returns-3 : tie.Need-returns-3
 returns-3 c =
-    let a = c .before .before .before .before .before .before .before .before .before .before .args in
-    front-refused _ _ _ (c .before .e .given .0 .0) (short-refused (source (holding (a .locations) (a .split)) (a .encoding) (a .endian) (a .section .now) (a .offset .0) (a .base-address) (a .debug-addr .now) (a .debug-addr-base)) (record { section = λ i. omega (arith, c .before .before .before .before .before .before .before .before .before .shared-slice-known .given i); table = λ i. omega (arith, c .before .before .before .before .before .before .before .before .shared-slice-known2 .given i) }) _ _ _ (c .before .before .before .cover-short .ensures .0) (c .before .e .given .0 .0) (c .before .e .given .1))
+    let a = c .before .before .before .before .before .before .before .before .before .before .before .args in
+    front-refused _ _ _ (c .before .e .given .0 .0) (short-refused (source (holding (a .locations) (a .split) (a .by-table) (a .kinds .now)) (a .encoding) (a .endian) (a .section .now) (a .offset .0) (a .base-address) (a .debug-addr .now) (a .debug-addr-base)) (record { section = λ i. omega (arith, c .before .before .before .before .before .before .before .before .before .before .shared-slice-known .given i); table = λ i. omega (arith, c .before .before .before .before .before .before .before .before .before .shared-slice-known2 .given i) }) _ _ _ (c .before .before .before .cover-short .ensures .0) (c .before .e .given .0 .0) (c .before .e .given .1))
 
 pub runs-list-spec : {M : Type 1} → statement M
 runs-list-spec =

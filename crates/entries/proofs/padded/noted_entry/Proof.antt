@@ -1,5 +1,6 @@
 -- What was read took as many bytes as lie between the places. Assumes nothing.
 use mathlib.Core.Path.{sym, ap, _∙_}
+use Rattle.entries.specs.Numbers.{codingOf}
 use Rattle.entries.specs.Listed.{stepIn}
 use Rattle.entries.specs.Told.{toldLocation}
 use Rattle.entries.proofs.PaddedLaws.{step-padded, noted-found, noted-ended, noted-refused}
@@ -15,8 +16,8 @@ enum-known-entry c = search needs
 
 sub-longer : tie.Need-sub-longer
 sub-longer c =
-    let a = c .before .before .before .before .before .args in
-    step-padded (a .locations) (a .split) (a .encoding) (a .endian) (a .section .now) (a .at)
+    let a = c .before .before .before .before .before .before .args in
+    step-padded (a .locations) (codingOf (a .split) (a .by-table) (a .kinds .now)) (a .encoding) (a .endian) (a .section .now) (a .at)
     (sym (ap (λ r. stepIn (a .locations) (toldLocation r)) (c .before .entry .given .1)) ∙ c .before .before .before .raw-entry .ensures) .0
 
 longer-requires : tie.Need-longer-requires
@@ -30,15 +31,15 @@ enum-known-e c = search needs
 
 returns : tie.Need-returns
 returns c =
-    let a = c .before .before .before .before .before .before .args in
+    let a = c .before .before .before .before .before .before .before .args in
     let h = sym (ap (λ r. stepIn (a .locations) (toldLocation r)) (c .before .before .entry .given .1)) ∙ c .before .before .before .before .raw-entry .ensures in
-    noted-found _ h (c .longer .ensures ∙ sym (step-padded (a .locations) (a .split) (a .encoding) (a .endian) (a .section .now) (a .at) h .1))
+    noted-found _ h (c .longer .ensures ∙ sym (step-padded (a .locations) (codingOf (a .split) (a .by-table) (a .kinds .now)) (a .encoding) (a .endian) (a .section .now) (a .at) h .1))
 
 returns-2 : tie.Need-returns-2
-returns-2 c = noted-ended _ (sym (ap (λ r. stepIn (c .before .before .before .before .args .locations) (toldLocation r)) (c .enum-told .given .1)) ∙ c .before .before .raw-entry .ensures)
+returns-2 c = noted-ended _ (sym (ap (λ r. stepIn (c .before .before .before .before .before .args .locations) (toldLocation r)) (c .enum-told .given .1)) ∙ c .before .before .raw-entry .ensures)
 
 returns-3 : tie.Need-returns-3
-returns-3 c = noted-refused _ (sym (ap (λ r. stepIn (c .before .before .before .before .before .args .locations) (toldLocation r)) (c .before .e .given .1)) ∙ c .before .before .before .raw-entry .ensures)
+returns-3 c = noted-refused _ (sym (ap (λ r. stepIn (c .before .before .before .before .before .before .args .locations) (toldLocation r)) (c .before .e .given .1)) ∙ c .before .before .before .raw-entry .ensures)
 
 pub noted-entry-spec : {M : Type 1} → statement M
 noted-entry-spec =

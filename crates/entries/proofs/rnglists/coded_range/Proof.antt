@@ -6,18 +6,19 @@ use native.Mathlib.Omega.{arith}
 use borrow.Author.Needs.{needs}
 use Rattle.bytes.specs.declared.error.Error.the-variants.{UnknownRangeListsEntry}
 use Rattle.bytes.proofs.ReaderLaws.{got-then, refused-then}
-use Rattle.entries.specs.Kinds.{rangeKinds, kindOf, ofKind, codedRange}
+use Rattle.entries.specs.Kinds.{rangeKinds, kindOf, ofKind, codedRangeBy}
+use Rattle.entries.specs.Numbers.{numberIn}
 use Rattle.entries.proofs.OperandLaws.{passed-on, index-then, no-index-then}
-use Rattle.entries.proofs.KindLaws.{no-code, code-is, code-unknown, no-range-kind}
+use Rattle.entries.proofs.KindLaws.{no-code, number-is, code-unknown, no-range-kind}
 use Rattle.entries.proofs.MovedLaws.{unsigned-within, address-within, stepFrom}
 use Rattle.entries.proofs.rnglists.coded_range.Statement.{statement}
 use Rattle.entries.proofs.rnglists.coded_range.Tie as tie
 
 -- the code is read
-at-code : (c : tie.After-known-told) (k : ℕ) → c .before .r .given .0 .0 ≡ k → (let a = c .before .before .before .before .before .args in
-    codedRange (a .encoding) (a .endian) (a .part .now)
-    ≡ ofKind (a .encoding) (a .endian) 0 (a .part .now) UnknownRangeListsEntry k (kindOf rangeKinds k) (c .before .r .given .0 .1 .0))
-at-code c k e = code-is _ _ _ _ _ _ (c .before .before .before .read-u8 .ensures) k (c .before .r .given .1) e
+at-code : (c : tie.After-kind-number) (k : ℕ) → c .kind-number .result ≡ k → (let a = c .before .before .before .before .before .before .before .args in
+    codedRangeBy (numberIn (a .by-table) (a .kinds .now)) (a .encoding) (a .endian) (a .part .now)
+    ≡ ofKind (a .encoding) (a .endian) 0 (a .part .now) UnknownRangeListsEntry (c .before .before .r .given .0 .0) (kindOf rangeKinds k) (c .before .before .r .given .0 .1 .0))
+at-code c k e = number-is _ _ _ _ _ _ (c .before .before .before .before .read-u8 .ensures) _ (c .before .before .r .given .1) (ap (kindOf rangeKinds) (sym (c .kind-number .ensures) ∙ e))
 
 read-u8-requires : tie.Need-read-u8-requires
 read-u8-requires c κs = search needs
@@ -34,6 +35,9 @@ passed-requires c κs = search needs
 returns : tie.Need-returns
 unfolding kindOf rangeKinds
 returns c = passed-on (c .passed .ensures) (c .before .enum-told .given .1) ∙ ap (stepFrom _) (sym (no-code _ _ _ _ _ _ (c .before .before .before .read-u8 .ensures) (c .before .enum-told .given .1)))
+
+kind-number-requires : tie.Need-kind-number-requires
+kind-number-requires c κs = search needs
 
 unsigned-requires : tie.Need-unsigned-requires
 unsigned-requires c κs = search needs
@@ -52,8 +56,8 @@ unfolding kindOf rangeKinds
 returns-2 c = passed-on (c .passed2 .ensures) (c .before .enum-told2 .given .1)
     ∙ ap (stepFrom _) (sym (at-code (c .before .before .before .before .before) 1 (c .before .before .before .before .match2 .keys2) ∙ no-index-then _ (c .before .before .before .unsigned .ensures) (c .before .enum-told2 .given .1)))
 
-add-t48 : tie.Need-add-t48
-add-t48 c = omega (arith, unsigned-within _ _ (c .before .before .before .unsigned .ensures) (c .before .r1 .given .1))
+add-t51 : tie.Need-add-t51
+add-t51 c = omega (arith, unsigned-within _ _ (c .before .before .before .unsigned .ensures) (c .before .r1 .given .1))
 
 unsigned-requires-2 : tie.Need-unsigned-requires-2
 unsigned-requires-2 c κs = search needs
@@ -89,8 +93,8 @@ unfolding kindOf rangeKinds
 returns-4 c = passed-on (c .passed4 .ensures) (c .before .enum-told4 .given .1)
     ∙ ap (stepFrom _) (sym (at-code (c .before .before .before .before .before .before .before .before .before) 2 (c .before .before .before .before .before .before .before .before .match2 .keys3) ∙ index-then _ (c .before .before .before .before .before .before .before .unsigned2 .ensures) (c .before .before .before .before .before .r12 .given .1) ∙ no-index-then _ (c .before .before .before .unsigned3 .ensures) (c .before .enum-told4 .given .1)))
 
-add-t53 : tie.Need-add-t53
-add-t53 c = omega (arith, unsigned-within _ _ (c .before .before .before .unsigned3 .ensures) (c .before .r2 .given .1))
+add-t56 : tie.Need-add-t56
+add-t56 c = omega (arith, unsigned-within _ _ (c .before .before .before .unsigned3 .ensures) (c .before .r2 .given .1))
 
 unsigned-requires-4 : tie.Need-unsigned-requires-4
 unsigned-requires-4 c κs = search needs
@@ -126,8 +130,8 @@ unfolding kindOf rangeKinds
 returns-6 c = passed-on (c .passed6 .ensures) (c .before .enum-told6 .given .1)
     ∙ ap (stepFrom _) (sym (at-code (c .before .before .before .before .before .before .before .before .before) 3 (c .before .before .before .before .before .before .before .before .match2 .keys4) ∙ index-then _ (c .before .before .before .before .before .before .before .unsigned4 .ensures) (c .before .before .before .before .before .r13 .given .1) ∙ refused-then _ (c .before .before .before .unsigned5 .ensures) (c .before .enum-told6 .given .1)))
 
-add-t57 : tie.Need-add-t57
-add-t57 c = omega (arith, unsigned-within _ _ (c .before .before .before .unsigned5 .ensures) (c .before .r22 .given .1))
+add-t60 : tie.Need-add-t60
+add-t60 c = omega (arith, unsigned-within _ _ (c .before .before .before .unsigned5 .ensures) (c .before .r22 .given .1))
 
 unsigned-requires-6 : tie.Need-unsigned-requires-6
 unsigned-requires-6 c κs = search needs
@@ -163,8 +167,8 @@ unfolding kindOf rangeKinds
 returns-8 c = passed-on (c .passed8 .ensures) (c .before .enum-told8 .given .1)
     ∙ ap (stepFrom _) (sym (at-code (c .before .before .before .before .before .before .before .before .before) 4 (c .before .before .before .before .before .before .before .before .match2 .keys5) ∙ got-then _ (c .before .before .before .before .before .before .before .unsigned6 .ensures) (c .before .before .before .before .before .r14 .given .1) ∙ refused-then _ (c .before .before .before .unsigned7 .ensures) (c .before .enum-told8 .given .1)))
 
-add-t60 : tie.Need-add-t60
-add-t60 c = omega (arith, unsigned-within _ _ (c .before .before .before .unsigned7 .ensures) (c .before .r23 .given .1))
+add-t63 : tie.Need-add-t63
+add-t63 c = omega (arith, unsigned-within _ _ (c .before .before .before .unsigned7 .ensures) (c .before .r23 .given .1))
 
 read-address-requires : tie.Need-read-address-requires
 read-address-requires c κs = search needs
@@ -183,8 +187,8 @@ unfolding kindOf rangeKinds
 returns-9 c = passed-on (c .passed9 .ensures) (c .before .enum-told9 .given .1)
     ∙ ap (stepFrom _) (sym (at-code (c .before .before .before .before .before) 5 (c .before .before .before .before .match2 .keys6) ∙ refused-then _ (c .before .before .before .read-address .ensures) (c .before .enum-told9 .given .1)))
 
-add-t62 : tie.Need-add-t62
-add-t62 c = omega (arith, address-within _ _ _ _ (c .before .before .before .read-address .ensures) (c .before .r15 .given .1))
+add-t65 : tie.Need-add-t65
+add-t65 c = omega (arith, address-within _ _ _ _ (c .before .before .before .read-address .ensures) (c .before .r15 .given .1))
 
 read-address-requires-2 : tie.Need-read-address-requires-2
 read-address-requires-2 c κs = search needs
@@ -220,8 +224,8 @@ unfolding kindOf rangeKinds
 returns-11 c = passed-on (c .passed11 .ensures) (c .before .enum-told11 .given .1)
     ∙ ap (stepFrom _) (sym (at-code (c .before .before .before .before .before .before .before .before .before) 6 (c .before .before .before .before .before .before .before .before .match2 .keys7) ∙ got-then _ (c .before .before .before .before .before .before .before .read-address2 .ensures) (c .before .before .before .before .before .r16 .given .1) ∙ refused-then _ (c .before .before .before .read-address3 .ensures) (c .before .enum-told11 .given .1)))
 
-add-t65 : tie.Need-add-t65
-add-t65 c = omega (arith, address-within _ _ _ _ (c .before .before .before .read-address3 .ensures) (c .before .r24 .given .1))
+add-t68 : tie.Need-add-t68
+add-t68 c = omega (arith, address-within _ _ _ _ (c .before .before .before .read-address3 .ensures) (c .before .r24 .given .1))
 
 read-address-requires-4 : tie.Need-read-address-requires-4
 read-address-requires-4 c κs = search needs
@@ -257,8 +261,8 @@ unfolding kindOf rangeKinds
 returns-13 c = passed-on (c .passed13 .ensures) (c .before .enum-told13 .given .1)
     ∙ ap (stepFrom _) (sym (at-code (c .before .before .before .before .before .before .before .before .before) 7 (c .before .before .before .before .before .before .before .before .match2 .keys8) ∙ got-then _ (c .before .before .before .before .before .before .before .read-address4 .ensures) (c .before .before .before .before .before .r17 .given .1) ∙ refused-then _ (c .before .before .before .unsigned8 .ensures) (c .before .enum-told13 .given .1)))
 
-add-t68 : tie.Need-add-t68
-add-t68 c = omega (arith, unsigned-within _ _ (c .before .before .before .unsigned8 .ensures) (c .before .r25 .given .1))
+add-t71 : tie.Need-add-t71
+add-t71 c = omega (arith, unsigned-within _ _ (c .before .before .before .unsigned8 .ensures) (c .before .r25 .given .1))
 
 returns-14 : tie.Need-returns-14
 unfolding kindOf rangeKinds
@@ -293,8 +297,8 @@ unfolding kindOf rangeKinds
 returns-21 c = ap (stepFrom _) (sym (at-code (c .before .before .before .before .before .before .before .before .before) 7 (c .before .before .before .before .before .before .before .before .match2 .keys8) ∙ got-then _ (c .before .before .before .before .before .before .before .read-address4 .ensures) (c .before .before .before .before .before .r17 .given .1) ∙ got-then _ (c .before .before .before .unsigned8 .ensures) (c .before .r25 .given .1)))
 
 returns-22 : tie.Need-returns-22
-returns-22 c = let q = c .match2 .rest in ap (stepFrom _) (sym (code-unknown _ _ _ _ _ _ (c .before .before .before .before .read-u8 .ensures) (c .before .before .r .given .1)
-    (no-range-kind _ (q .0 .0 .0 .0 .0 .0 .0 .1) (q .0 .0 .0 .0 .0 .0 .1) (q .0 .0 .0 .0 .0 .1) (q .0 .0 .0 .0 .1) (q .0 .0 .0 .1) (q .0 .0 .1) (q .0 .1) (q .1))))
+returns-22 c = let q = c .match2 .rest in ap (stepFrom _) (sym (code-unknown _ _ _ _ _ _ (c .before .before .before .before .before .read-u8 .ensures) (c .before .before .before .r .given .1)
+    (ap (kindOf rangeKinds) (sym (c .before .kind-number .ensures)) ∙ no-range-kind _ (q .0 .0 .0 .0 .0 .0 .0 .1) (q .0 .0 .0 .0 .0 .0 .1) (q .0 .0 .0 .0 .0 .1) (q .0 .0 .0 .0 .1) (q .0 .0 .0 .1) (q .0 .0 .1) (q .0 .1) (q .1))))
 
 pub coded-range-spec : {M : Type 1} → statement M
 coded-range-spec =
@@ -305,12 +309,13 @@ coded-range-spec =
     enum-told
     passed-requires
     returns
+    kind-number-requires
     unsigned-requires
     enum-known-r1
     enum-told-2
     passed-requires-2
     returns-2
-    add-t48
+    add-t51
     unsigned-requires-2
     enum-known-r1-2
     enum-told-3
@@ -321,7 +326,7 @@ coded-range-spec =
     enum-told-4
     passed-requires-4
     returns-4
-    add-t53
+    add-t56
     unsigned-requires-4
     enum-known-r1-3
     enum-told-5
@@ -332,7 +337,7 @@ coded-range-spec =
     enum-told-6
     passed-requires-6
     returns-6
-    add-t57
+    add-t60
     unsigned-requires-6
     enum-known-r1-4
     enum-told-7
@@ -343,13 +348,13 @@ coded-range-spec =
     enum-told-8
     passed-requires-8
     returns-8
-    add-t60
+    add-t63
     read-address-requires
     enum-known-r1-5
     enum-told-9
     passed-requires-9
     returns-9
-    add-t62
+    add-t65
     read-address-requires-2
     enum-known-r1-6
     enum-told-10
@@ -360,7 +365,7 @@ coded-range-spec =
     enum-told-11
     passed-requires-11
     returns-11
-    add-t65
+    add-t68
     read-address-requires-4
     enum-known-r1-7
     enum-told-12
@@ -371,7 +376,7 @@ coded-range-spec =
     enum-told-13
     passed-requires-13
     returns-13
-    add-t68
+    add-t71
     returns-14
     returns-15
     returns-16

@@ -3,8 +3,8 @@ use Rattle.lists.proofs.OpenLaws.{opened-size, list-then, no-list-then}
 use Rattle.lists.specs.Open.{toldOpened}
 use mathlib.Core.Path.{sym, ap, _∙_}
 use borrow.Author.Needs.{needs}
-use Rattle.lookups.proofs.lookup_range.Statement.{statement}
-use Rattle.lookups.proofs.lookup_range.Tie as tie
+use Rattle.lookups.proofs.lookup_in.Statement.{statement}
+use Rattle.lookups.proofs.lookup_in.Tie as tie
 
 ranges-requires : tie.Need-ranges-requires
 ranges-requires c κs = search needs
@@ -27,7 +27,7 @@ returns c = sym (no-list-then _ (c .before .before .before .ranges .ensures) (c 
 returns-2 : tie.Need-returns-2
 returns-2 c = c .range-found .ensures ∙ c .before .found-from .ensures ∙ sym (list-then _ (c .before .before .before .before .before .ranges .ensures) (c .before .before .before .start .given .1))
 
-pub lookup-range-spec : {M : Type 1} → statement M
-lookup-range-spec =
+pub lookup-in-spec : {M : Type 1} → statement M
+lookup-in-spec =
     tie.close
     (tie.spec ranges-requires enum-known-e enum-known-start found-from-requires range-found-requires returns returns-2)
