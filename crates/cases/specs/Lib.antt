@@ -1,6 +1,7 @@
 pub mod Cases
 pub mod CanonicalCases
 pub mod CountCases
+pub mod DefaultCases
 pub mod KindCases
 pub mod MarkCases
 pub mod PaddedCases

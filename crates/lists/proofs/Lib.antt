@@ -1,5 +1,6 @@
 pub mod OpenLaws
 pub mod WalkLaws
+pub mod SteppedLaws
 pub mod Past
 pub mod ListedLaws
 pub mod ConvertLaws

@@ -1,16 +1,18 @@
 -- A raw entry of either list ends past its place and in the section, looks at the bytes that it takes alone, and at none before its
 -- place. Assumes nothing.
-use Prim.Native.Nat.{ℕ, _+_, _<_}
+use Prim.Native.Nat.{ℕ, _+_, _≤_, _<_}
 use mathlib.Core.Bool.{Bool, true, false}
 use mathlib.Core.List.{List}
 use mathlib.Core.Path.{_≡_}
 use native.Mathlib.Omega.{arith}
 use lib.ListN.{length}
+use borrow.Author.Tests.{le-leb}
 use Rattle.bytes.specs.Read.{gives, refused, got, Read}
 use Rattle.bytes.specs.declared.common.Encoding.{Encoding}
 use Rattle.bytes.specs.declared.endianity.RunTimeEndian.{RunTimeEndian}
 use Rattle.bytes.proofs.Took.{Agree, Took}
-use Rattle.entries.specs.Kinds.{rangeEntryBy, locationEntry}
+use Rattle.entries.specs.Forms.{stop}
+use Rattle.entries.specs.Kinds.{rangeEntryBy, locationEntry, rawAt}
 use Rattle.entries.specs.Listed.{readIn}
 use Rattle.entries.proofs.EntryTook.{range-took, location-took, raw-same}
 use Rattle.entries.specs.Numbers.{Coding}
@@ -32,3 +34,10 @@ pub listed-alike : (l : Bool) (coding : Coding) (encoding : Encoding) (endian : 
     → readIn l coding encoding endian s at ≡ readIn l coding encoding endian t at
 listed-alike true coding encoding endian s t at a = raw-same (locationEntry (coding .split) encoding endian at) s t at a
 listed-alike false coding encoding endian s t at a = raw-same (rangeEntryBy (coding .number) encoding endian) s t at a
+
+-- at and past the section's end a list ends
+pub listed-ends : (l : Bool) (coding : Coding) (encoding : Encoding) (endian : RunTimeEndian) (s : List ℕ) (at : ℕ) → length s ≤ at
+    → readIn l coding encoding endian s at ≡ gives (got stop at)
+unfolding rawAt
+listed-ends true coding encoding endian s at h = simp (le-leb _ _ h)
+listed-ends false coding encoding endian s at h = simp (le-leb _ _ h)

@@ -4,6 +4,7 @@ pub mod Walk
 pub mod Renumbered
 pub mod Yields
 pub mod Walks
+pub mod Steps
 pub mod Sizes
 pub mod Counted
 pub mod Uncounted

@@ -65,9 +65,12 @@ InBoundsOr false size b e = InBounds size b e
 abbrev pub LocationInBounds : ℕ → RawLocListEntry → ℕ → ℕ → Type 0
 LocationInBounds size x b e = InBoundsOr (isDefault x) size b e
 
--- a list whose ranges carry the entries that they come from, in place of what the list makes of them
+-- a list whose ranges carry something else that is made of the entries that they come from; or these entries themselves
+abbrev pub carriedAs : {D : Type 0} → (l : Listing) → (l .Entry → D) → Listing
+carriedAs {D} l f = record { Entry = l .Entry; Carried = D; read = l .read; boundsOf = l .boundsOf; carried = f }
+
 abbrev pub withEntries : Listing → Listing
-withEntries l = record { Entry = l .Entry; Carried = l .Entry; read = l .read; boundsOf = l .boundsOf; carried = λ e. e }
+withEntries l = carriedAs l (λ e. e)
 
 -- what is carried, made into something else
 abbrev pub carrying : {D C : Type 0} → (D → C) → Trace D → Trace C

@@ -10,6 +10,7 @@ use entries::RawRngListEntry;
 use tables::addr::AddressAnswer;
 ghost use mathlib.Core.Path.{_≡_};
 ghost use Rattle.tables.specs.Addr.{addressAt};
+ghost use Rattle.lists.specs.Walks.{isDefault};
 ghost use Rattle.lists.specs.Convert.{toldTurn, toldUnchecked, bounded, offsets, convert, expressionOf, passedOf, tableAt};
 
 // A range, another base address, nothing, or a refused lookup.
@@ -141,5 +142,22 @@ pub fn expression_of(raw: RawLocListEntry) -> Expression
         RawLocListEntry::DefaultLocation(x) => x,
         RawLocListEntry::StartEnd(_, _, x) => x,
         RawLocListEntry::StartLength(_, _, x) => x,
+    }
+}
+
+// Whether an entry is a default location, by its kind: a bounded entry can have the same bounds.
+pub fn is_default(raw: RawLocListEntry) -> bool
+    ensures { λ r. ⌜ r ≡ isDefault raw ⌝ }
+{
+    match raw {
+        RawLocListEntry::AddressOrOffsetPair(_, _, _) => false,
+        RawLocListEntry::BaseAddress(_) => false,
+        RawLocListEntry::BaseAddressx(_) => false,
+        RawLocListEntry::StartxEndx(_, _, _) => false,
+        RawLocListEntry::StartxLength(_, _, _) => false,
+        RawLocListEntry::OffsetPair(_, _, _) => false,
+        RawLocListEntry::DefaultLocation(_) => true,
+        RawLocListEntry::StartEnd(_, _, _) => false,
+        RawLocListEntry::StartLength(_, _, _) => false,
     }
 }

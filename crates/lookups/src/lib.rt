@@ -1,4 +1,5 @@
-// The first range of a list that holds an address; in a location list, with its expression.
+// The first range of a list that holds an address; in a location list the first bounded one with its expression, and where none
+// does, the first default location.
 use bytes::common::DebugAddrBase;
 use bytes::common::DwarfFileType;
 use bytes::common::Encoding;
@@ -11,12 +12,15 @@ use lists::Opened;
 use lists::Range;
 use lists::Walk;
 use lists::loclists::LocationAnswer;
+use lists::loclists::Stepped;
 ghost use mathlib.Core.Path.{_≡_};
 ghost use mathlib.Core.Bool.{true, false};
 ghost use Rattle.bytes.specs.Common.{isSplit};
 ghost use Rattle.bytes.specs.Reader.{isSize};
 ghost use Rattle.entries.specs.Numbers.{codingOf};
-ghost use Rattle.lookups.specs.Lookup.{holds as holdsAt, foundIn, lookupFrom, toldRangeFound, lookupRangeIn, lookupRange, lookupRangeBy, toldLocationFound, lookupLocation};
+ghost use Rattle.bytes.specs.Read.{gives};
+ghost use Rattle.lists.specs.Walk.{item};
+ghost use Rattle.lookups.specs.Lookup.{holds as holdsAt, found, lookupRangeFrom, rangeOf, toldRangeFound, lookupRangeIn, lookupRange, lookupRangeBy, orElse, lookupLocationFrom, toldLocationFound, lookupLocation};
 
 pub enum RangeFound {
     Found(Range),
@@ -40,23 +44,20 @@ pub fn holds(range: Range, address: u64) -> bool
     false
 }
 
-// The first item from a walk on whose range holds an address, or the first refusal met before it; in a range list it carries
-// no expression.
-fn found_from(
+// The first range from a walk on that holds an address, or the first refusal met before it.
+fn range_from(
     section: &[u8],
     debug_addr: &[u8],
     debug_addr_base: DebugAddrBase,
     start: Walk,
     encoding: Encoding,
     endian: RunTimeEndian,
-    locations: bool,
-    split: bool,
     by_table: bool,
     kinds: &[u8],
     address: u64,
 ) -> LocationFound
     requires { ⌜ isSize (encoding .«address_size») ≡ true ⌝ }
-    ensures { λ r. ⌜ foundIn locations (toldLocationFound r) ≡ lookupFrom locations (codingOf split «by_table» (now (kinds .entry))) encoding endian (now (section .entry)) (now («debug_addr» .entry)) «debug_addr_base» address start ⌝ }
+    ensures { λ r. ⌜ rangeOf (toldLocationFound r) ≡ lookupRangeFrom (codingOf false «by_table» (now (kinds .entry))) encoding endian (now (section .entry)) (now («debug_addr» .entry)) «debug_addr_base» address start ⌝ }
 {
     let mut walk = start;
     loop {
@@ -67,15 +68,15 @@ fn found_from(
             walk,
             encoding,
             endian,
-            locations,
-            split,
+            false,
+            false,
             by_table,
             kinds,
         ) {
-            LocationAnswer::Location(location, after) => {
-                let range = location.range;
+            LocationAnswer::Location(item, after) => {
+                let range = item.range;
                 if holds(range, address) {
-                    return LocationFound::Found(location);
+                    return LocationFound::Found(item);
                 }
                 walk = after;
             }
@@ -89,9 +90,9 @@ fn found_from(
     }
 }
 
-// A location found, without what it carries.
+// A range found, without the expression that it has in the code.
 fn range_found(r: LocationFound) -> RangeFound
-    ensures { λ q. ⌜ toldRangeFound q ≡ foundIn false (toldLocationFound r) ⌝ }
+    ensures { λ q. ⌜ toldRangeFound q ≡ rangeOf (toldLocationFound r) ⌝ }
 {
     match r {
         LocationFound::Found(x) => {
@@ -121,15 +122,13 @@ fn lookup_in(
     match lists::rnglists::ranges(section, offset, encoding, base_address) {
         Opened::Refused(e) => RangeFound::Refused(e),
         Opened::List(start) => {
-            let found = found_from(
+            let found = range_from(
                 section,
                 debug_addr,
                 debug_addr_base,
                 start,
                 encoding,
                 endian,
-                false,
-                false,
                 by_table,
                 kinds,
                 address,
@@ -195,8 +194,82 @@ pub fn lookup_range_by(
     )
 }
 
-// The first location of the list at an offset whose range holds an address, plain or split: the refusals of opening,
-// then the first that the walk meets before that location. What follows it is not read.
+// What was found first.
+fn first_found(kept: LocationFound, location: LocationListEntry) -> LocationFound
+    ensures { λ r. ⌜ toldLocationFound r ≡ orElse (toldLocationFound kept) (gives (found (item (location .range .begin) (location .range .end) (location .«data»)))) ⌝ }
+{
+    match kept {
+        LocationFound::NotThere => LocationFound::Found(location),
+        LocationFound::Found(first) => LocationFound::Found(first),
+        LocationFound::Refused(e) => LocationFound::Refused(e),
+    }
+}
+
+// The first bounded location from a walk on whose range holds an address, or the first refusal met before it; at the end of the
+// list the first default location, which is kept until then.
+fn location_from(
+    section: &[u8],
+    debug_addr: &[u8],
+    debug_addr_base: DebugAddrBase,
+    start: Walk,
+    encoding: Encoding,
+    endian: RunTimeEndian,
+    split: bool,
+    address: u64,
+) -> LocationFound
+    ensures { λ r. ⌜ toldLocationFound r ≡ lookupLocationFrom split encoding endian (now (section .entry)) (now («debug_addr» .entry)) «debug_addr_base» address start ⌝ }
+{
+    let mut at = start.at;
+    let mut base_address = start.base_address;
+    let mut kept = LocationFound::NotThere;
+    loop {
+        match lists::loclists::step(
+            section,
+            debug_addr,
+            debug_addr_base,
+            at,
+            base_address,
+            encoding,
+            endian,
+            split,
+        ) {
+            Stepped::Bounded(location, c) => {
+                let range = location.range;
+                if holds(range, address) {
+                    return LocationFound::Found(location);
+                }
+                at = c;
+            }
+            Stepped::Default(location, c) => {
+                let whole = location.range;
+                if holds(whole, address) {
+                    kept = first_found(kept, location);
+                }
+                at = c;
+            }
+            Stepped::Base(b, c) => {
+                base_address = b;
+                at = c;
+            }
+            Stepped::Nothing(c) => {
+                at = c;
+            }
+            Stepped::Failed(failed, _) => {
+                return LocationFound::Refused(failed);
+            }
+            Stepped::End => {
+                return kept;
+            }
+            Stepped::Refused(refused) => {
+                return LocationFound::Refused(refused);
+            }
+        }
+    }
+}
+
+// The location of an address in the list at an offset, plain or split: of the first bounded entry whose range holds it, and where
+// the list has ended without one, of the first default location. The refusals of opening, then the first that the walk meets
+// before that bounded entry, also behind a default location. What follows the bounded entry is not read.
 pub fn lookup_location(
     section: &[u8],
     debug_addr: &[u8],
@@ -214,17 +287,14 @@ pub fn lookup_location(
         Opened::Refused(e) => LocationFound::Refused(e),
         Opened::List(start) => {
             let split = file_type.is_split();
-            found_from(
+            location_from(
                 section,
                 debug_addr,
                 debug_addr_base,
                 start,
                 encoding,
                 endian,
-                true,
                 split,
-                false,
-                section,
                 address,
             )
         }

@@ -15,8 +15,8 @@ enum-known-e c = search needs
 enum-known-start : tie.Need-enum-known-start
 enum-known-start c = search needs
 
-found-from-requires : tie.Need-found-from-requires
-found-from-requires c κs = opened-size _ _ _ _ (sym (c .before .before .before .ranges .ensures) ∙ ap toldOpened (c .before .start .given .1))
+range-from-requires : tie.Need-range-from-requires
+range-from-requires c κs = opened-size _ _ _ _ (sym (c .before .before .before .ranges .ensures) ∙ ap toldOpened (c .before .start .given .1))
 
 range-found-requires : tie.Need-range-found-requires
 range-found-requires c κs = search needs
@@ -25,9 +25,9 @@ returns : tie.Need-returns
 returns c = sym (no-list-then _ (c .before .before .before .ranges .ensures) (c .before .e .given .1))
 
 returns-2 : tie.Need-returns-2
-returns-2 c = c .range-found .ensures ∙ c .before .found-from .ensures ∙ sym (list-then _ (c .before .before .before .before .before .ranges .ensures) (c .before .before .before .start .given .1))
+returns-2 c = c .range-found .ensures ∙ c .before .range-from .ensures ∙ sym (list-then _ (c .before .before .before .before .before .ranges .ensures) (c .before .before .before .start .given .1))
 
 pub lookup-in-spec : {M : Type 1} → statement M
 lookup-in-spec =
     tie.close
-    (tie.spec ranges-requires enum-known-e enum-known-start found-from-requires range-found-requires returns returns-2)
+    (tie.spec ranges-requires enum-known-e enum-known-start range-from-requires range-found-requires returns returns-2)
