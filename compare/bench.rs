@@ -34,6 +34,7 @@ mod bench_sets;
 #[allow(dead_code)]
 mod elf;
 
+use bench_gimli::{Choosing, SharedChoosing};
 use bench_gimli::{Covering, Heading, Lists, Marking, Putting, Seeking, Walking, Writing};
 use bench_gimli::{Entering, Numbering, SharedEntering, SharedNumbering};
 use bench_rows::{Kind, Row, Tabled, Task};
@@ -84,6 +85,7 @@ fn untabled(row: &Row) -> [Run<'_>; 3] {
     match row.task {
         Task::Walk => walks(row),
         Task::Lookup(address) => lookups(row, address),
+        Task::LookupPastDefaults(address) => lookups_past_defaults(row, address),
         Task::Coverage => coverages(row),
         Task::Runs => runs(row),
         Task::Canonical => canonicals(row),
@@ -129,6 +131,15 @@ fn lookups(row: &Row, address: u64) -> [Run<'_>; 3] {
             Box::new(move |passes| bench_gimli::lookup_location(&several, address, passes)),
         ]
     }
+}
+
+fn lookups_past_defaults(row: &Row, address: u64) -> [Run<'_>; 3] {
+    let (one, several) = (Lists::<Choosing>::new(row), Lists::<SharedChoosing>::new(row));
+    [
+        Box::new(move |passes| bench_port::lookup_location(row, address, passes)),
+        Box::new(move |passes| bench_gimli::lookup_past_defaults(&one, address, passes)),
+        Box::new(move |passes| bench_gimli::lookup_past_defaults(&several, address, passes)),
+    ]
 }
 
 fn coverages(row: &Row) -> [Run<'_>; 3] {
@@ -262,6 +273,7 @@ fn check(row: &Row, runs: &mut [Run<'_>; 3]) {
     let yielded = match (row.task, row.kind) {
         (Task::Headers, _) => bench_gimli::count_headers(&lists),
         (Task::Load, _) => 1,
+        (Task::LookupPastDefaults(_), _) => bench_gimli::count_converted(&Lists::new(row)),
         (Task::Raw, Kind::Ranges) => bench_gimli::count_raw_ranges(&Lists::new(row)),
         (Task::Raw, _) => bench_gimli::count_raw_locations(&Lists::new(row)),
         (Task::Numbers, _) => bench_gimli::count_numbers(bench_gimli::section(row)),

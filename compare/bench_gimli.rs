@@ -4,11 +4,12 @@
 //! Over `RunTimeEndian` all loops of the program share one `next`, which stays
 //! a call ("several callers"). Each of the byte orders `Walking`, `Seeking`,
 //! `Covering`, `Putting`, `Writing`, `Heading`, `Marking`, `Entering`,
-//! `Numbering` is a `RunTimeEndian` under another name, so that its `next` has
-//! one caller and is inlined there ("one caller"); those with `Real` before are
-//! for loops over many lists. Raw entries and numbers have an order for several
-//! callers, too, whose name begins with `Shared`: the raw `next` over
-//! `RunTimeEndian` has one caller, the other `next`.
+//! `Choosing`, `Numbering` is a `RunTimeEndian` under another name, so that its
+//! `next` has one caller and is inlined there ("one caller"); those with `Real`
+//! before are for loops over many lists. Raw entries, with or without their
+//! conversion, and numbers have an order for several callers, too, whose name
+//! begins with `Shared`: the raw `next` over `RunTimeEndian` has one caller, the
+//! other `next`, and so has the conversion.
 
 use crate::bench_port::raw_sum;
 use crate::bench_rows::{Kind, Row};
@@ -44,7 +45,7 @@ macro_rules! orders {
 }
 
 orders! { Walking Seeking Covering Putting Writing Heading Marking }
-orders! { Entering SharedEntering Numbering SharedNumbering }
+orders! { Entering SharedEntering Choosing SharedChoosing Numbering SharedNumbering }
 orders! { RealWalking RealSeeking RealCovering RealPutting RealWriting }
 
 /// A byte order that the program chooses when it runs.
@@ -395,21 +396,29 @@ pub fn lookup_location<E: Order>(lists: &Lists<'_, E>, address: u64, passes: u64
 #[inline(always)]
 pub fn lookup_location_once<E: Order>(lists: &Lists<'_, E>, offset: u64, address: u64) -> u64 {
     match find_location(lists, offset, address) {
-        Ok(Some(entry)) => {
-            let (place, length) = (lists.place(&entry), entry.data.0.len() as u64);
-            (entry.range.begin ^ entry.range.end).wrapping_add(place) ^ length
-        }
+        Ok(Some(entry)) => location_sum(lists, &entry),
         Ok(None) => 0,
         Err(error) => refused(error),
     }
 }
 
 #[inline(always)]
+fn location_sum<'a, E: Order>(
+    lists: &Lists<'a, E>,
+    entry: &LocationListEntry<Slice<'a, E>>,
+) -> u64 {
+    let (place, length) = (lists.place(entry), entry.data.0.len() as u64);
+    (entry.range.begin ^ entry.range.end).wrapping_add(place) ^ length
+}
+
+type FoundLocation<'a, E> = Result<Option<LocationListEntry<Slice<'a, E>>>, Error>;
+
+#[inline(always)]
 fn find_location<'a, E: Order>(
     lists: &Lists<'a, E>,
     offset: u64,
     address: u64,
-) -> Result<Option<LocationListEntry<Slice<'a, E>>>, Error> {
+) -> FoundLocation<'a, E> {
     let mut walk = lists.open_locations(offset)?;
     while let Some(entry) = walk.next()? {
         if holds(&entry.range, address) {
@@ -417,6 +426,36 @@ fn find_location<'a, E: Order>(
         }
     }
     Ok(None)
+}
+
+#[inline(never)]
+pub fn lookup_past_defaults<E: Order>(lists: &Lists<'_, E>, address: u64, passes: u64) -> u64 {
+    let once = |lists| match find_past_defaults(lists, address) {
+        Ok(Some(entry)) => location_sum(lists, &entry),
+        Ok(None) => 0,
+        Err(error) => refused(error),
+    };
+    repeat!(1, repeat!(passes, once(black_box(lists))))
+}
+
+/// The scope's lookup by raw entries, which say what is a default location.
+#[inline(always)]
+fn find_past_defaults<'a, E: Order>(lists: &Lists<'a, E>, address: u64) -> FoundLocation<'a, E> {
+    let mut walk = lists.open_locations(lists.offset)?;
+    let mut default = None;
+    while let Some(raw) = walk.next_raw()? {
+        let is_default = matches!(raw, RawLocListEntry::DefaultLocation { .. });
+        match walk.convert_raw(raw)? {
+            Some(entry) if holds(&entry.range, address) => {
+                if !is_default {
+                    return Ok(Some(entry));
+                }
+                default.get_or_insert(entry);
+            }
+            _ => {}
+        }
+    }
+    Ok(default)
 }
 
 #[inline(never)]
@@ -493,6 +532,18 @@ pub fn count_raw_locations(lists: &Lists<'_, SharedEntering>) -> u64 {
     let mut count = 0;
     while walk.next().unwrap_or_else(|error| refused(error)).is_some() {
         count += 1;
+    }
+    count
+}
+
+/// How many locations a list yields entry by entry: another caller.
+#[inline(never)]
+pub fn count_converted(lists: &Lists<'_, SharedChoosing>) -> u64 {
+    let mut walk = lists.open_locations(lists.offset).unwrap_or_else(|error| refused(error));
+    let mut count = 0;
+    while let Some(raw) = walk.next_raw().unwrap_or_else(|error| refused(error)) {
+        let converted = walk.convert_raw(raw).unwrap_or_else(|error| refused(error));
+        count += u64::from(converted.is_some());
     }
     count
 }

@@ -15,6 +15,8 @@ pub enum Task {
     Walk,
     /// The first entry that holds the address.
     Lookup(u64),
+    /// The first that isn't a default location, or else the first default location.
+    LookupPastDefaults(u64),
     Coverage,
     /// The coverage's ranges at the front of slices, and nothing else.
     Runs,
@@ -102,6 +104,8 @@ enum Pattern {
     Bases,
     /// The last three forms of a linked program, in no order.
     Mixed,
+    /// A default location, then all of a form.
+    Behind(Form),
 }
 
 impl Pattern {
@@ -113,6 +117,8 @@ impl Pattern {
             Pattern::Mixed => {
                 [StartLength, StartEnd, StartLengthIndex][(spread(index) % 3) as usize]
             }
+            Pattern::Behind(_) if index == 0 => Default,
+            Pattern::Behind(form) => form,
         }
     }
 }
@@ -126,6 +132,7 @@ fn spread(index: u64) -> u64 {
 const TABLE_ENTRIES: u64 = 256;
 const TABLE_BASE: usize = 8;
 const LIST_OFFSET: usize = 12;
+const BASE_ADDRESS: u64 = 0x1000;
 /// Distance of two begins in lists of address size 4 and 8; every length is
 /// below it.
 const STEP: u64 = 0x400;
@@ -139,6 +146,11 @@ fn span(index: u64, size: u8) -> (u64, u64) {
         4 => (0x10000 + index * STEP, 1 + spread(index) % 0x200),
         _ => (0x7f00_0000_0000 + index * STEP, 1 + spread(index) % 0x200),
     }
+}
+
+/// The begin of an offset pair, one of nine.
+fn offset(index: u64, size: u8) -> u64 {
+    if size == 1 { index % 9 } else { index % 9 * 0x60 }
 }
 
 struct Writer {
@@ -206,7 +218,7 @@ impl Writer {
                 }
             }
             OffsetPair => {
-                let offset = if self.size == 1 { index % 9 } else { index % 9 * 0x60 };
+                let offset = offset(index, self.size);
                 self.uleb128(offset);
                 self.uleb128(offset + length);
             }
@@ -310,7 +322,7 @@ impl Plan {
             table: table(size, big).leak(),
             table_base: TABLE_BASE as u64,
             // A bare pair's begin is an address already.
-            base_address: if self.bare() || size == 1 { 0 } else { 0x1000 },
+            base_address: if self.bare() || size == 1 { 0 } else { BASE_ADDRESS },
             version,
             address_size: size,
             dwarf64: false,
@@ -442,6 +454,34 @@ fn lookups(rows: &mut Rows<'_>) {
                 let plan = Plan::new(kind, Pattern::All(form), 8, big);
                 lookup(rows, word, plan, 3);
                 lookup(rows, word, plan, 1000);
+            }
+        }
+    }
+}
+
+/// Lookups behind a default location, which is the first entry: of an address that
+/// the last entry alone holds beside it, and of one that no other does.
+fn defaults(rows: &mut Rows<'_>) {
+    let size = 8;
+    for (word, form) in [("4", OffsetPair), ("8", StartLength)] {
+        let plan = Plan::new(Kind::Locations, Pattern::Behind(form), size, false);
+        let range = |index| {
+            let (begin, length) = span(index, size);
+            let pair = BASE_ADDRESS + offset(index, size);
+            let begin = if form == OffsetPair { pair } else { begin };
+            begin..begin + length
+        };
+        for count in [3, 1000] {
+            let address = range(count).end - 1;
+            let others = (1..).filter(|&index| !range(index).contains(&address));
+            let others = others.take(count as usize - 1);
+            let indexes: Vec<u64> = [0].into_iter().chain(others).chain([count]).collect();
+            for (place, address) in [("end", address), ("alone", 0)] {
+                let name = format!("lookup-default-{place}-location-{word}-{size}-little-{count}");
+                rows.add(name, |name| Row {
+                    task: Task::LookupPastDefaults(address),
+                    ..plan.row(name, indexes.iter().copied())
+                });
             }
         }
     }
@@ -626,6 +666,7 @@ pub fn rows(wanted: &dyn Fn(&str) -> bool) -> Vec<Row> {
     let mut rows = Rows { wanted, rows: Vec::new() };
     walks(&mut rows);
     lookups(&mut rows);
+    defaults(&mut rows);
     sets(&mut rows, false, &[1, 4, 32, 33, 1024, 3000]);
     sheets(&mut rows);
     headers(&mut rows);

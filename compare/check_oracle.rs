@@ -84,6 +84,7 @@ fn main() {
     marks(&mut check);
     padded(&mut check);
     renumbered(&mut check);
+    defaults(&mut check);
     open_points(&mut check);
     differences(&mut check);
     println!("{} examples, {} differ", check.run, check.wrong);
@@ -616,6 +617,81 @@ fn renumbered(c: &mut Check) {
         let stated = [(range(1, 2), 4), (end, 8)];
         same(version, 2, 0, "01 00 02 00 00 00 00 00", &stated);
     }
+}
+
+/// gimli has no lookup: these are the answers that are made with its walk and its raw
+/// entries.
+fn defaults(c: &mut Check) {
+    use Kind::{Locations, SplitLocations};
+    let table = bytes(TABLE);
+    let not_there = Answer::End;
+    let default = |offset| location(0, u64::MAX, offset, 1);
+    // Each address with its answer.
+    let mut same = |kind, version, address_size, text: &str, stated: &[_]| {
+        let b = bytes(text);
+        let usual = List { version, address_size, ..list(kind, &b) };
+        let l = List { table: &table, table_base: 8, ..usual };
+        for &(address, answer) in stated {
+            c.same(&format!("{text}, lookup of {address:x}"), lookup(&l, address), answer);
+        }
+    };
+    let mut plain = |text, stated: &[_]| same(Locations, 5, 4, text, stated);
+
+    let first = [
+        (0, default(2)),
+        (0xf, default(2)),
+        (0x10, location(0x10, 0x20, 0xd, 1)),
+        (0x1f, location(0x10, 0x20, 0xd, 1)),
+        (0x20, default(2)),
+        (1 << 32, default(2)),
+        (u64::MAX - 1, default(2)),
+        (u64::MAX, not_there),
+    ];
+    plain("05 01 50 07 10 00 00 00 20 00 00 00 01 51 00", &first);
+    // The same where the list ends with its section.
+    plain("05 01 50 07 10 00 00 00 20 00 00 00 01 51", &first);
+    plain("05 01 50", &[(7, default(2)), (u64::MAX, not_there)]);
+    plain("05 01 50 05 01 52 00", &[(5, default(2)), (u64::MAX, not_there)]);
+
+    // Damage, also where the default doesn't hold the address.
+    let unknown = refused(4, 9);
+    plain("05 01 50 09", &[(0x10, unknown), (u64::MAX, unknown)]);
+    let found = location(0x10, 0x20, 0xa, 1);
+    plain(
+        "07 10 00 00 00 20 00 00 00 01 51 05 01 50 09",
+        &[(0x10, found), (0x30, unknown), (u64::MAX, unknown)],
+    );
+    plain("05 01 50 05 02 52", &[(5, refused(1, 0))]);
+    plain("05 01 50 02 00 02 01 51 00", &[(5, refused(1, 0)), (u64::MAX, refused(1, 0))]);
+    // Behind the failed lookup stands an entry that holds 10.
+    let failed = "05 01 50 02 00 02 01 51 07 10 00 00 00 20 00 00 00 01 52 00";
+    plain(failed, &[(0x10, refused(1, 0))]);
+    // An entry that is skipped holds nothing.
+    plain("05 01 50 07 10 00 00 00 10 00 00 00 01 51 00", &[(0x10, default(2))]);
+
+    // Bounded, with the bounds of a default.
+    let mut wide = |text: &str, offset| {
+        let bounded = location(0, u64::MAX, offset, 1);
+        same(Locations, 5, 8, text, &[(5, bounded), (u64::MAX, not_there)]);
+    };
+    wide("05 01 50 07 00 00 00 00 00 00 00 00 ff ff ff ff ff ff ff ff 01 51 00", 0x15);
+    wide("05 01 50 08 00 00 00 00 00 00 00 00 ff ff ff ff ff ff ff ff ff 01 01 51 00", 0x17);
+    wide("05 01 50 04 00 ff ff ff ff ff ff ff ff ff 01 01 51 00", 0x10);
+
+    for version in [2, 3, 4] {
+        let stated = [(7, default(3)), (u64::MAX, not_there)];
+        same(SplitLocations, version, 4, "05 01 00 50 00", &stated);
+        let stated = [(0, default(3)), (0x10, location(0x10, 0x18, 0xc, 1)), (0x18, default(3))];
+        same(SplitLocations, version, 4, "05 01 00 50 03 00 08 00 00 00 01 00 51 00", &stated);
+    }
+    for version in [5, 6] {
+        same(SplitLocations, version, 4, "05 01 50 00", &[(7, default(2))]);
+    }
+    // A range list's kind 5 is a base address, and bare pairs have no kinds.
+    let moved = [(0x1001, range(0x1001, 0x1002)), (1, not_there)];
+    same(Kind::Ranges, 5, 4, "05 00 10 00 00 04 01 02 00", &moved);
+    let bare = [(5, location(5, 7, 4, 1)), (7, not_there)];
+    same(Locations, 4, 1, "05 07 01 00 50 00 00", &bare);
 }
 
 fn open_points(c: &mut Check) {

@@ -18,7 +18,7 @@ use crate::added::{self, Added};
 use crate::measure::{self, Tables, Walk, gimli_reads};
 use crate::model::Model;
 
-/// The first entry whose range holds an address, "not there", or a refusal.
+/// The entry that a lookup gives, the end for "not there", or a refusal.
 pub type Found = Answer<Yielded>;
 
 /// A LEB128 number: its value, the place after it, how many bytes it took, and
@@ -44,10 +44,7 @@ pub trait Port: Sync {
     fn next(&self, list: &List, walk: State) -> (Answer<Yielded>, State);
     fn next_raw(&self, list: &List, walk: State) -> (Answer<Noted>, State);
     fn convert_raw(&self, list: &List, walk: State, entry: Raw) -> (Converted, State);
-
-    fn lookup(&self, list: &List, address: u64) -> Found {
-        first_that_holds(address, self.open(list), |walk| self.next(list, walk))
-    }
+    fn lookup(&self, list: &List, address: u64) -> Found;
 
     fn get_address(
         &self,
@@ -97,29 +94,6 @@ pub trait Port: Sync {
     fn truncate(&self, bytes: &[u8], length: u64) -> Result<Place, Refusal>;
     fn wrapping_add_sized(&self, address: u64, length: u64, size: u8) -> u64;
     fn min_tombstone(&self, size: u8) -> u64;
-}
-
-fn holds(entry: &Yielded, address: u64) -> bool {
-    entry.begin <= address && address < entry.end
-}
-
-/// A lookup by the calls of a walk.
-pub fn first_that_holds(
-    address: u64,
-    opened: Result<State, Refusal>,
-    next: impl Fn(State) -> (Answer<Yielded>, State),
-) -> Found {
-    let mut state = match opened {
-        Ok(state) => state,
-        Err(refusal) => return Answer::Refused(refusal),
-    };
-    loop {
-        let (answer, after) = next(state);
-        match answer {
-            Answer::Entry(entry) if !holds(&entry, address) => state = after,
-            answer => return answer,
-        }
-    }
 }
 
 /// How often each thing was met, by name, how many calls were compared, how
@@ -507,30 +481,36 @@ fn other_size(port: &impl Added, list: &List, seed: u64, met: &mut Met) -> Resul
     added::other_size(port, list, r, met)
 }
 
-/// Looks addresses up: gimli has no such call, so its walk up to the entry
-/// that holds the address is the answer.
+/// Looks addresses up.
 fn lookups(port: &impl Port, list: &List, seed: u64, met: &mut Met) -> Result<(), String> {
     let r = &mut Random::new(seed.rotate_left(32));
-    let answers: Vec<_> = Walk::answers(list).into_iter().map(|(answer, _)| answer).collect();
+    let answers = Walk::answers(list);
     for _ in 0..2 {
-        let address = match answers[r.below(answers.len() as u64) as usize] {
-            Answer::Entry(entry) => match r.below(4) {
-                0 => entry.begin,
-                1 => entry.end - 1,
-                2 => entry.end,
-                _ => entry.begin.wrapping_sub(1),
-            },
-            _ => r.next() >> r.below(64),
-        };
-        let first = answers.iter().find(|answer| match answer {
-            Answer::Entry(entry) => holds(entry, address),
-            _ => true,
-        });
-        let oracle = *first.expect("a walk's end");
-        count_answer(met, "lookup", &oracle);
-        met.same("lookup", &oracle, &port.lookup(list, address))?;
+        let address = address_near(r, &answers);
+        lookup(port, list, address, met)?;
     }
     Ok(())
+}
+
+/// An address at a border of something that a walk yields, or any.
+pub fn address_near(r: &mut Random, answers: &[(Answer<Yielded>, u64)]) -> u64 {
+    match answers[r.below(answers.len() as u64) as usize].0 {
+        Answer::Entry(entry) => match r.below(4) {
+            0 => entry.begin,
+            1 => entry.end - 1,
+            2 => entry.end,
+            _ => entry.begin.wrapping_sub(1),
+        },
+        _ => r.next() >> r.below(64),
+    }
+}
+
+/// Looks an address up.
+pub fn lookup(port: &impl Port, list: &List, address: u64, met: &mut Met) -> Result<(), String> {
+    let due = measure::lookup(list, address);
+    count_answer(met, "lookup", &due);
+    met.same("lookup", &due, &port.lookup(list, address))
+        .map_err(|error| format!("{error}, of address {address:x}"))
 }
 
 fn convert_one(

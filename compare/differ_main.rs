@@ -1,7 +1,8 @@
 //! Compares the port with the oracle: every short list, headers of address
 //! tables with every size and at places of every remainder, then the cases of as
 //! many seeds as are asked for, then for each of them a list that is walked with
-//! marks, then a case built for coverage, sheets and canonical lists for every
+//! marks, and a location list with default locations in which addresses are looked
+//! up, then a case built for coverage, sheets and canonical lists for every
 //! twentieth of them. Then comes padding: every short string as a number and as
 //! the operands of an entry, a number for each seed, and a list for every fourth
 //! of them. Then comes address size 3: every short list, and for every fourth of
@@ -20,6 +21,7 @@
 
 mod added;
 mod built;
+mod defaults;
 mod differ;
 mod kinds;
 mod marks;
@@ -137,6 +139,12 @@ fn run<P: Tabled>(port: &P, seeds: u64, first: u64, all: bool) {
         let case = generator::list_case(&mut Random::new(seed), &READ);
         marks::compare(port, &case, seed, met)
             .map_err(|error| format!("marks, seed {seed}: {error}\n{case:x?}"))
+    }));
+    total.join(part(seeds, &format!("lists with defaults from seed {first}"), |index, met| {
+        let seed = first.wrapping_add(index);
+        let case = generator::default_list(seed);
+        defaults::list(port, &case, seed, met)
+            .map_err(|error| format!("defaults, seed {seed}: {error}\n{case:x?}"))
     }));
     let name = format!("built cases from seed {first}");
     total.join(part(seeds.div_ceil(20), &name, |index, met| {

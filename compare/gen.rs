@@ -409,15 +409,19 @@ fn index(r: &mut Random, count: u64, size: u8, wild: Wild) -> u64 {
 
 /// One entry with a kind byte.
 fn kind_entry(w: &mut Writer, r: &mut Random, list: &ListCase, count: u64, wild: Wild) {
-    let size = list.address_size;
-    let located = list.kind != Kind::Ranges;
-    let old = list.version <= 4;
-    // By the scope's meanings: 1 to 8 are location kinds.
-    let meaning = r.pick(&[1, 2, 3, 3, 4, 4, 4, 5, 6, 7, 7, 8, 8]);
-    if !located && meaning == 5 {
-        return;
+    let meaning = r.pick(&[1, 2, 3, 3, 4, 4, 4, DEFAULT, 6, 7, 7, 8, 8]);
+    if list.kind != Kind::Ranges || meaning != DEFAULT {
+        entry_of(meaning, w, r, list, count, wild);
     }
-    w.out.push(if located || meaning < 5 { meaning } else { meaning - 1 });
+}
+
+/// The meaning that range lists have no kind for.
+const DEFAULT: u8 = 5;
+
+/// One entry by the scope's meanings: 1 to 8 are location kinds.
+fn entry_of(meaning: u8, w: &mut Writer, r: &mut Random, list: &ListCase, count: u64, wild: Wild) {
+    let size = list.address_size;
+    let old_location = list.kind != Kind::Ranges && list.version <= 4;
     let (begin, end) = pair(r, size, wild);
     let length = match r.below(8) {
         0 => 0,
@@ -425,43 +429,45 @@ fn kind_entry(w: &mut Writer, r: &mut Random, list: &ListCase, count: u64, wild:
         2 => some_number(r, size, wild),
         _ => r.below(0x40) + 1,
     };
+    let first = match meaning {
+        1..=3 => index(r, count, size, wild),
+        6 => base(r, size, wild),
+        _ => begin,
+    };
+    let second = |r: &mut Random| match meaning {
+        2 if r.one_in(1, 2) => first.wrapping_add(1),
+        2 => index(r, count, size, wild),
+        3 if old_location && r.one_in(1, 16) => 0xffffffff,
+        3 | 8 => length,
+        _ => end,
+    };
+    entry_with(meaning, first, second, w, r, list, wild);
+}
+
+/// An entry of a meaning with these numbers, as far as it has them; the second is
+/// drawn when the first is written.
+fn entry_with(
+    meaning: u8,
+    first: u64,
+    second: impl FnOnce(&mut Random) -> u64,
+    w: &mut Writer,
+    r: &mut Random,
+    list: &ListCase,
+    wild: Wild,
+) {
+    let (size, old, located) = (list.address_size, list.version <= 4, list.kind != Kind::Ranges);
+    w.out.push(if located || meaning < DEFAULT { meaning } else { meaning - 1 });
     match meaning {
-        1 => {
-            let at = index(r, count, size, wild);
-            w.number(r, at, wild);
-        }
-        2 => {
-            let at = index(r, count, size, wild);
-            w.number(r, at, wild);
-            let to = if r.one_in(1, 2) { at.wrapping_add(1) } else { index(r, count, size, wild) };
-            w.number(r, to, wild);
-        }
-        3 => {
-            let at = index(r, count, size, wild);
-            w.number(r, at, wild);
-            if located && old {
-                w.fixed(if r.one_in(1, 16) { 0xffffffff } else { length }, 4);
-            } else {
-                w.number(r, length, wild);
-            }
-        }
-        4 => {
-            w.number(r, begin, wild);
-            w.number(r, end, wild);
-        }
-        5 => {}
-        6 => {
-            let base = base(r, size, wild);
-            w.address(base, size);
-        }
-        7 => {
-            w.address(begin, size);
-            w.address(end, size);
-        }
-        _ => {
-            w.address(begin, size);
-            w.number(r, length, wild);
-        }
+        DEFAULT => {}
+        6..=8 => w.address(first, size),
+        _ => w.number(r, first, wild),
+    }
+    let second = second(r);
+    match meaning {
+        1 | DEFAULT | 6 => {}
+        3 if located && old => w.fixed(second, 4),
+        7 => w.address(second, size),
+        _ => w.number(r, second, wild),
     }
     if located && !matches!(meaning, 1 | 6) {
         expression(w, r, old, wild);
@@ -605,7 +611,7 @@ fn list(r: &mut Random, size: u8, wild: Wild) -> (ListCase, Writer, Writer) {
     };
     list.offset = r.below(3) * r.below(12);
     let mut w = Writer::new(r.bytes(list.offset), big_endian);
-    let bare = list.version <= 4 && list.kind != Kind::SplitLocations;
+    let bare = is_bare(&list);
     let entries = match r.below(400) {
         0 => 1000 + r.below(60),
         1..=20 => 20 + r.below(60),
@@ -622,12 +628,23 @@ fn list(r: &mut Random, size: u8, wild: Wild) -> (ListCase, Writer, Writer) {
             kind_entry(&mut w, r, &list, count, wild);
         }
     }
-    match (r.one_in(7, 8), bare) {
-        (false, _) => {}
-        (true, false) => w.out.push(0),
-        (true, true) => (0..2).for_each(|_| w.address(0, size)),
+    if r.one_in(7, 8) {
+        end_mark(&mut w, &list);
     }
     (list, w, table)
+}
+
+/// Whether the entries are bare pairs.
+fn is_bare(list: &ListCase) -> bool {
+    list.version <= 4 && list.kind != Kind::SplitLocations
+}
+
+fn end_mark(w: &mut Writer, list: &ListCase) {
+    if is_bare(list) {
+        (0..2).for_each(|_| w.address(0, list.address_size));
+    } else {
+        w.out.push(0);
+    }
 }
 
 /// A list of size 3, and the same list of size 4. Some lack their last byte, or
@@ -700,6 +717,133 @@ pub fn padded_list(seed: u64) -> ListCase {
     (list.old, list.new) =
         if list.version <= 4 { (w.out, Vec::new()) } else { (Vec::new(), w.out) };
     list
+}
+
+/// A location list with default locations, which compilers don't write: first, in
+/// the middle, last, or several of them, among entries of the other kinds, some of
+/// which have the bounds of a default location, or nearly. What follows is an end
+/// mark, the section's end, or damage. One list in sixteen is of bare pairs, none of
+/// which is a default location, whatever its bounds.
+pub fn default_list(seed: u64) -> ListCase {
+    let r = &mut Random::new(seed);
+    let size = r.pick(&[1, 2, 3, 4, 4, 8, 8, 8]);
+    let wild = r.pick(&[Wild::Tame, Wild::Tame, Wild::Edges]);
+    let (kind, versions) = match r.below(16) {
+        0 => (Kind::Locations, [2, 3, 4, 4]),
+        1..=7 => (Kind::Locations, [5, 5, 5, 6]),
+        _ => (Kind::SplitLocations, [2, 3, 4, 5]),
+    };
+    let mut list = ListCase {
+        kind,
+        old: Vec::new(),
+        new: Vec::new(),
+        offset: r.below(3),
+        version: r.pick(&versions),
+        address_size: size,
+        dwarf64: r.one_in(1, 4),
+        big_endian: r.one_in(1, 2),
+        base_address: if r.one_in(1, 3) { 0 } else { base(r, size, wild) },
+        table: Vec::new(),
+        table_base: r.below(3),
+    };
+    let rows = table_of_ends(r, &mut list);
+    let mut w = Writer::new(r.bytes(list.offset), list.big_endian);
+    let count = 1 + r.below(6) as usize;
+    let mut defaults = vec![false; count];
+    for _ in 0..r.pick(&[1, 1, 2, 3]) {
+        let any = r.below(count as u64) as usize;
+        defaults[r.pick(&[0, 0, count / 2, count - 1, any])] = true;
+    }
+    for default in defaults {
+        match r.below(8) {
+            _ if default && !is_bare(&list) => entry_of(DEFAULT, &mut w, r, &list, rows, wild),
+            0 | 1 => wide_entry(&mut w, r, &list, wild),
+            _ => bounded_entry(&mut w, r, &list, rows, wild),
+        }
+    }
+    behind_defaults(&mut w, r, &list, rows, wild);
+    (list.old, list.new) =
+        if list.version <= 4 { (w.out, Vec::new()) } else { (Vec::new(), w.out) };
+    list
+}
+
+/// An address table whose first two rows are 0 and the largest address; the number
+/// of its rows.
+fn table_of_ends(r: &mut Random, list: &mut ListCase) -> u64 {
+    let (size, some) = (list.address_size, r.below(4));
+    let mut table = Writer::new(r.bytes(list.table_base), list.big_endian);
+    table.address(0, size);
+    table.address(top(size), size);
+    for _ in 0..some {
+        let row = tame(r, size);
+        table.address(row, size);
+    }
+    list.table = table.out;
+    2 + some
+}
+
+/// A bare pair, or an entry of any kind but a default location.
+fn bounded_entry(w: &mut Writer, r: &mut Random, list: &ListCase, rows: u64, wild: Wild) {
+    if is_bare(list) {
+        bare_entry(w, r, list, wild);
+    } else {
+        let meaning = r.pick(&[1, 2, 3, 4, 4, 4, 6, 7, 7, 8, 8]);
+        entry_of(meaning, w, r, list, rows, wild);
+    }
+}
+
+/// A bounded entry of all addresses, which at size 8 has the bounds of a default
+/// location; or of one less at an end.
+fn wide_entry(w: &mut Writer, r: &mut Random, list: &ListCase, wild: Wild) {
+    let size = list.address_size;
+    let (later, sooner) = (r.one_in(1, 8), r.one_in(1, 8));
+    let (begin, end) = (u64::from(later), top(size) - u64::from(sooner));
+    let from_base = |address: u64| address.wrapping_sub(list.base_address);
+    if is_bare(list) {
+        w.address(from_base(begin), size);
+        w.address(from_base(end), size);
+        return expression(w, r, true, wild);
+    }
+    let (meaning, first, second) = r.pick(&[
+        (2, 0, 1),
+        (3, 0, end),
+        (4, from_base(begin), from_base(end)),
+        (7, begin, end),
+        (8, begin, end - begin),
+    ]);
+    entry_with(meaning, first, |_| second, w, r, list, wild);
+}
+
+/// What follows the entries: an end mark, the section's end, an entry that is cut,
+/// or, where there are kinds, an unknown one, a number that is too long, or an index
+/// past the table's end. Half of the lists go on behind it.
+fn behind_defaults(w: &mut Writer, r: &mut Random, list: &ListCase, rows: u64, wild: Wild) {
+    let coded = !is_bare(list);
+    match r.below(16) {
+        0..=5 => end_mark(w, list),
+        6 | 7 => return,
+        8 | 9 if coded => w.out.push(r.pick(&[9, 0x7f, 0xff])),
+        10 if coded => w.out.extend([[4].as_slice(), &[0x80; 9], &[2]].concat()),
+        11..=13 if coded => {
+            let (meaning, first, second) =
+                r.pick(&[(1, rows, 0), (2, rows + 1, 0), (2, 0, rows), (3, rows, 1)]);
+            entry_with(meaning, first, |_| second, w, r, list, wild);
+        }
+        _ => {
+            let start = w.out.len();
+            if coded && r.one_in(1, 2) {
+                entry_of(DEFAULT, w, r, list, rows, wild);
+            } else {
+                bounded_entry(w, r, list, rows, wild);
+            }
+            let length = (w.out.len() - start) as u64;
+            return w.out.truncate(start + 1 + r.below(length - 1) as usize);
+        }
+    }
+    if r.one_in(1, 2) {
+        bounded_entry(w, r, list, rows, wild);
+        end_mark(w, list);
+    }
 }
 
 /// The fixed table of kind numbers: every kind is its own code.

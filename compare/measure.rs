@@ -3,7 +3,7 @@
 //! numbers and raw entries gimli tells no padding: that is the model's, which has
 //! to read the same number or entry there.
 
-use crate::differ::{Noted, Number, Port};
+use crate::differ::{Found, Noted, Number, Port};
 use crate::model::{self, Model};
 use generator::SIZES;
 use oracle::oracle_api::{self as gimli, *};
@@ -25,6 +25,15 @@ pub fn uleb128(bytes: &[u8], at: u64) -> Result<Number, Refusal> {
     let plain = Model.uleb128(bytes, at).expect("a number");
     assert_eq!((value, at + taken), (plain.value, plain.next));
     Ok(plain)
+}
+
+/// The lookup by gimli's walk, or the model's.
+pub fn lookup(list: &List, address: u64) -> Found {
+    if gimli_reads(list.address_size) {
+        gimli::lookup(list, address)
+    } else {
+        Model.lookup(list, address)
+    }
 }
 
 /// gimli's entry at a place of a list, with the model's padding.

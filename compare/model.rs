@@ -3,7 +3,7 @@
 //! Slow and short; it shares nothing with gimli's code.
 
 use crate::added::{self, Added, Kept, MOST, Marks, Ranges, Tabled, Words, Wrote};
-use crate::differ::{Found, Noted, Number, Port, first_that_holds};
+use crate::differ::{Found, Noted, Number, Port};
 use oracle::oracle_api::{
     Answer, Converted, Form, Kind, List, Lists, Place, Raw, Refusal, State, Table, Yielded,
 };
@@ -303,20 +303,64 @@ fn whole(bytes: &[u8], big: bool) -> Bytes<'_> {
 
 /// The walk, with a table or without one.
 impl Model {
+    /// The next raw entry's form, and what the entry comes to.
+    pub fn step(
+        &self,
+        list: &List,
+        kinds: Numbers,
+        walk: State,
+    ) -> (Answer<(Form, Converted)>, State) {
+        let (answer, mut walk) = self.next_raw_in(list, kinds, walk);
+        let step = answer.map(|noted| {
+            let (converted, after) = self.convert_raw(list, walk, noted.entry);
+            walk = after;
+            (noted.entry.form, converted)
+        });
+        (step, walk)
+    }
+
     fn next_in(&self, list: &List, kinds: Numbers, mut walk: State) -> (Answer<Yielded>, State) {
         loop {
-            let (answer, after) = self.next_raw_in(list, kinds, walk);
+            let (step, after) = self.step(list, kinds, walk);
             walk = after;
-            let entry = match answer {
-                Answer::Entry(noted) => noted.entry,
-                Answer::End => return (Answer::End, walk),
-                Answer::Refused(refusal) => return (Answer::Refused(refusal), walk),
+            let answer = match step {
+                Answer::Entry((_, Converted::Nothing)) => continue,
+                Answer::Entry((_, Converted::Entry(entry))) => Answer::Entry(entry),
+                Answer::Entry((_, Converted::Refused(refusal))) => Answer::Refused(refusal),
+                Answer::End => Answer::End,
+                Answer::Refused(refusal) => Answer::Refused(refusal),
             };
-            match self.convert_raw(list, walk, entry) {
-                (Converted::Entry(entry), after) => return (Answer::Entry(entry), after),
-                (Converted::Nothing, after) => walk = after,
-                (Converted::Refused(refusal), after) => return (Answer::Refused(refusal), after),
+            return (answer, walk);
+        }
+    }
+
+    /// All that is yielded up to the first refusal or the end, each by whether it is a
+    /// default; then the first bounded one that holds the address. Without one a refusal
+    /// is the answer, and then the first default, which holds all but 2^64 - 1.
+    fn lookup_in(&self, list: &List, kinds: Numbers, address: u64) -> Found {
+        let mut walk = match self.open(list) {
+            Ok(walk) => walk,
+            Err(refusal) => return Answer::Refused(refusal),
+        };
+        let (mut bounded, mut defaults) = (Vec::new(), Vec::new());
+        let refused = loop {
+            let (step, after) = self.step(list, kinds, walk);
+            walk = after;
+            match step {
+                Answer::Entry((_, Converted::Nothing)) => {}
+                Answer::Entry((Form::Default, Converted::Entry(entry))) => defaults.push(entry),
+                Answer::Entry((_, Converted::Entry(entry))) => bounded.push(entry),
+                Answer::Entry((_, Converted::Refused(refusal))) => break Some(refusal),
+                Answer::End => break None,
+                Answer::Refused(refusal) => break Some(refusal),
             }
+        };
+        let held = bounded.into_iter().find(|entry| (entry.begin..entry.end).contains(&address));
+        match (held, refused, defaults.first()) {
+            (Some(entry), _, _) => Answer::Entry(entry),
+            (None, Some(refusal), _) => Answer::Refused(refusal),
+            (None, None, Some(entry)) if address < u64::MAX => Answer::Entry(*entry),
+            (None, None, _) => Answer::End,
         }
     }
 
@@ -366,6 +410,10 @@ impl Port for Model {
             Err(refusal) => Converted::Refused(refusal),
         };
         (converted, walk)
+    }
+
+    fn lookup(&self, list: &List, address: u64) -> Found {
+        self.lookup_in(list, None, address)
     }
 
     fn get_address(&self, table: &[u8], big: bool, size: u8, base: u64, index: u64) -> Got<u64> {
@@ -615,7 +663,7 @@ impl Tabled for Model {
     }
 
     fn lookup_by(&self, list: &List, kinds: &[u8], address: u64) -> Found {
-        first_that_holds(address, self.open(list), |walk| self.next_by(list, kinds, walk))
+        self.lookup_in(list, Some(kinds), address)
     }
 
     fn coverage_by(&self, list: &List, kinds: &[u8], kept: &mut Kept) -> Wrote {

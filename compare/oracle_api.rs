@@ -1,8 +1,8 @@
 //! gimli's readers as plain calls: byte slices and numbers in, comparable
 //! values out. Every call goes to gimli's own code over
 //! `EndianSlice<RunTimeEndian>`; nothing is computed here but names, numbers of
-//! refusals, places counted from a section's start, and how many raw entries
-//! gimli's raw walk reads.
+//! refusals, places counted from a section's start, how many raw entries gimli's
+//! raw walk reads, and which of a walk's entries a lookup gives.
 //!
 //! Walks with an address size other than 1, 2, 4, 8 are outside the
 //! comparison, since gimli refuses each address there: the scope lists them as a
@@ -84,6 +84,12 @@ pub struct Yielded {
     pub begin: u64,
     pub end: u64,
     pub expression: Option<Place>,
+}
+
+impl Yielded {
+    pub fn holds(&self, address: u64) -> bool {
+        self.begin <= address && address < self.end
+    }
 }
 
 /// The forms of a raw entry.
@@ -456,6 +462,11 @@ impl<'a> Walk<'a> {
         }
     }
 
+    /// The next raw entry's form, and what the entry comes to.
+    pub fn step(&mut self) -> Answer<(Form, Converted)> {
+        self.next_raw().map(|entry| (entry.form, self.convert_raw(entry)))
+    }
+
     /// Where the walk stands. Slower than a reading call. gimli has no count, so
     /// its raw walk of the list is led up to the place. At an end mark and at the
     /// section's end that walk answers the same; but it is called only where
@@ -606,6 +617,36 @@ pub fn walk_raw(list: &List<'_>, most: usize) -> Vec<Answer<Raw>> {
     match Walk::open(list) {
         Ok(mut walk) => trace(most, || walk.next_raw()),
         Err(refusal) => vec![Answer::Refused(refusal)],
+    }
+}
+
+/// The scope's lookup, by gimli's walk: the first entry that holds the address and
+/// isn't a default location, or the first refusal met before it; at the end the
+/// first default location, where it holds the address. gimli yields a default
+/// location as a range like any other: the raw entry tells it from one with the
+/// same bounds.
+pub fn lookup(list: &List<'_>, address: u64) -> Answer<Yielded> {
+    let mut walk = match Walk::open(list) {
+        Ok(walk) => walk,
+        Err(refusal) => return Answer::Refused(refusal),
+    };
+    let mut default = Answer::End;
+    loop {
+        match walk.step() {
+            Answer::Entry((form, Converted::Entry(entry))) if entry.holds(address) => {
+                if form != Form::Default {
+                    return Answer::Entry(entry);
+                }
+                if default == Answer::End {
+                    default = Answer::Entry(entry);
+                }
+            }
+            Answer::Entry((_, Converted::Refused(refusal))) | Answer::Refused(refusal) => {
+                return Answer::Refused(refusal);
+            }
+            Answer::Entry(_) => {}
+            Answer::End => return default,
+        }
     }
 }
 

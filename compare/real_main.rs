@@ -290,14 +290,9 @@ impl<'a> Section<'a> {
 
     /// The bounds of each range that is yielded, looked up.
     fn lookups(&mut self, port: &impl Port, list: &List, walked: &Walked) {
-        let answers = gimli::walk(list, usize::MAX);
         for entry in &walked.yielded {
             for address in [entry.begin, entry.end - 1, entry.end] {
-                let first = answers.iter().find(|answer| match answer {
-                    Answer::Entry(entry) => entry.begin <= address && address < entry.end,
-                    _ => true,
-                });
-                let oracle = *first.expect("a walk's end");
+                let oracle = gimli::lookup(list, address);
                 self.row.same("lookup", &oracle, &port.lookup(list, address));
             }
         }

@@ -177,10 +177,6 @@ fn fewer(left: u64, ended: bool) -> u64 {
     if ended && 2 <= left { 1 } else { left - 1 }
 }
 
-fn holds(entry: &Yielded, address: u64) -> bool {
-    entry.begin <= address && address < entry.end
-}
-
 /// The answers to one call under way, and whether gimli refused size 3.
 struct Lines<'a> {
     call: &'a Call,
@@ -290,14 +286,8 @@ impl Lines<'_> {
         }
     }
 
-    /// gimli has no lookup: its walk up to the entry that holds the address.
     fn look_up(&mut self, list: &List, address: u64) {
-        let answers = gimli::walk(list, usize::MAX);
-        let first = answers.iter().find(|answer| match answer {
-            Answer::Entry(entry) => holds(entry, address),
-            _ => true,
-        });
-        match *first.expect("a walk's end") {
+        match gimli::lookup(list, address) {
             Answer::Entry(entry) => self.put("found", yielded(entry)),
             Answer::End => self.put("not there", "not there".into()),
             Answer::Refused(refusal) => self.refused("", refusal, String::new()),

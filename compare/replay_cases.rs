@@ -399,6 +399,35 @@ fn look_ups(ask: &mut dyn FnMut(&Call)) {
     }
 }
 
+/// Lookups in lists with default locations: before and behind a bounded entry,
+/// twice, before damage, and beside a bounded entry of all addresses.
+fn defaults(ask: &mut dyn FnMut(&Call)) {
+    let shapes =
+        [(1, 5, 4, false), (1, 5, 8, true), (2, 3, 2, true), (2, 4, 8, false), (2, 5, 1, false)];
+    for (list, version, size, big_endian) in shapes {
+        let s = Shape { list, version, size, big_endian };
+        let entries = [(5, 0, 0), (8, 0x10, 8), (1, 4, 0), (7, 0, top(size))];
+        let [default, bounded, failed, all] =
+            entries.map(|(meaning, a, b)| s.write(&[s.entry(meaning, a, b)]));
+        let (unknown, end) = ([9], s.end());
+        let lists = [
+            [&default[..], &bounded, &end].concat(),
+            [&bounded[..], &default].concat(),
+            [&bounded[..], &default, &default, &end].concat(),
+            [&default[..], &bounded, &default, &unknown].concat(),
+            [&default[..], &failed, &bounded, &end].concat(),
+            [&default[..], &all, &unknown].concat(),
+        ];
+        for bytes in lists {
+            for address in [0xf, 0x10, u64::MAX - 1, u64::MAX] {
+                let mut call = s.call(LOOKUP, bytes.clone(), 0);
+                call.numbers[3] = address;
+                ask(&call);
+            }
+        }
+    }
+}
+
 fn plain(what: u64, size: u8, big_endian: bool, dwarf64: bool, table: Vec<u8>) -> Call {
     Call { what, size, version: 5, big_endian, dwarf64, table, ..Call::default() }
 }
@@ -600,6 +629,7 @@ pub fn made(ask: &mut dyn FnMut(&Call)) {
         lookups_in_tables,
         openings,
         look_ups,
+        defaults,
         headers,
         addresses,
         offsets,

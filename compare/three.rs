@@ -7,7 +7,7 @@ use oracle::oracle_api::{self as gimli, *};
 
 use crate::added::{self, Added};
 use crate::built;
-use crate::differ::{self, Met, Noted, Port, follow, kind_and_version, list_of};
+use crate::differ::{self, Met, Noted, Port, address_near, follow, kind_and_version, list_of};
 use crate::measure::noted_answers;
 
 /// Walks one short list as every kind, version 4 and 5, in both orders, answers
@@ -87,8 +87,8 @@ pub fn widened(
         return Ok(());
     };
     met.met(format!("widened {}", kind_and_version(three)));
-    let told = gimli::walk_counted(four).into_iter();
-    let told = told.map(|(answer, entries)| (yielded(four, answer), entries));
+    let answers = gimli::walk_counted(four);
+    let told = answers.iter().map(|&(answer, entries)| (yielded(four, answer), entries));
     let next = |state| {
         let (got, after) = port.next(three, state);
         (yielded(three, got), after)
@@ -101,6 +101,12 @@ pub fn widened(
         (raw(three, got), after)
     };
     follow("next_raw", told, port.open(three), next, met)?;
+    let r = &mut Random::new(seed.rotate_left(32));
+    for _ in 0..2 {
+        let address = address_near(r, &answers);
+        let due = yielded(four, gimli::lookup(four, address));
+        met.same("lookup", &due, &yielded(three, port.lookup(three, address)))?;
+    }
     added::covering(port, three, added::coverage(four), &mut Random::new(seed), false, met)
 }
 

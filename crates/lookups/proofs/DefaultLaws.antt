@@ -7,11 +7,10 @@ use native.Mathlib.Omega.{arith}
 use borrow.Author.Tests.{le-leb, lt-ltb, ltb-true}
 use lib.Dec.{leb, ltb}
 use lib.ListN.{length}
-use Rattle.bytes.specs.Read.{Result, gives, refused, pick}
+use Rattle.bytes.specs.Read.{Result, gives, refused}
 use Rattle.bytes.specs.declared.common.DebugAddrBase.{DebugAddrBase}
 use Rattle.bytes.specs.declared.common.Encoding.{Encoding}
 use Rattle.bytes.specs.declared.endianity.RunTimeEndian.{RunTimeEndian}
-use Rattle.entries.specs.declared.Expression.{Expression}
 use Rattle.entries.specs.declared.RawLocListEntry.{RawLocListEntry}
 use Rattle.lists.specs.Convert.{tableAt, expressionOf}
 use Rattle.lists.specs.Walk.{locations, Item, item, Trace, over, handed, trace}

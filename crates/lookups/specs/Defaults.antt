@@ -9,10 +9,9 @@ use Rattle.bytes.specs.Read.{Result, gives, refused, pick}
 use Rattle.bytes.specs.declared.common.DebugAddrBase.{DebugAddrBase}
 use Rattle.bytes.specs.declared.common.Encoding.{Encoding}
 use Rattle.bytes.specs.declared.endianity.RunTimeEndian.{RunTimeEndian}
-use Rattle.entries.specs.declared.Expression.{Expression}
 use Rattle.entries.specs.declared.RawLocListEntry.{RawLocListEntry}
 use Rattle.lists.specs.Convert.{tableAt, expressionOf}
-use Rattle.lists.specs.Walk.{locations, Item, item, Trace, over, handed, trace}
+use Rattle.lists.specs.Walk.{locations, item, Trace, over, handed, trace}
 use Rattle.lists.specs.Walks.{isDefault, carrying, Each}
 use Rattle.lists.specs.Yields.{Unrefused}
 use Rattle.lists.specs.declared.Walk.{Walk}

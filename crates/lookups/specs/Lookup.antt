@@ -1,7 +1,7 @@
 -- Lookup (docs/SCOPE.md, "Lookup"): the first yielded entry whose range holds an address; of a location list the first bounded one,
 -- and only where there is none, the first default location.
 use Prim.Native.Nat.{ℕ}
-use mathlib.Core.Bool.{Bool, false, true, not, _&&_}
+use mathlib.Core.Bool.{Bool, false, not, _&&_}
 use mathlib.Core.List.{List}
 use lib.Dec.{leb, ltb}
 use lib.ListN.{length}

@@ -1,8 +1,8 @@
 -- What was read, and what that comes to, kind by kind. Assumes nothing.
-use mathlib.Core.Bool.{true, false}
+use mathlib.Core.Bool.{true}
 use mathlib.Core.Path.{_≡_, refl, sym, ap, _∙_}
 use borrow.Author.Needs.{needs}
-use Rattle.bytes.specs.Read.{Result, gives, got}
+use Rattle.bytes.specs.Read.{gives, got}
 use Rattle.entries.specs.Forms.{entry}
 use Rattle.entries.specs.Listed.{readIn, stepIn}
 use Rattle.entries.specs.Numbers.{dwarf}
