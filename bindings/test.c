@@ -1826,6 +1826,238 @@ static void test_expression(void) {
 #define LLOOKUP(list, encoding, file_type, offset, address, ...)                                                     \
     IS(location, yz_location_lookup(list, TABLE, 8, encoding, file_type, offset, 0x100, address), __VA_ARGS__)
 
+/* A default location, and a code that is no kind. */
+#define BY_DEFAULT(offset, length) DONE, 0, MAX, offset, length
+#define NO_KIND_9 REFUSED(YZ_UNKNOWN_LOC_LISTS_ENTRY, 9)
+
+/* A default location is found where the list has ended without a bounded entry that holds the address. */
+static void default_locations(void) {
+    /* First. */
+#define LIST S("\x05\x01\x50\x07\x10\0\0\0\x20\0\0\0\x01\x51\0")
+    LLOOKUP(LIST, little(5, 4), MAIN, 0, 0x10, DONE, 0x10, 0x20, 13, 1);
+    LLOOKUP(LIST, little(5, 4), DWO, 0, 0x1f, DONE, 0x10, 0x20, 13, 1);
+    LLOOKUP(LIST, little(5, 4), MAIN, 0, 0x0f, BY_DEFAULT(2, 1));
+    LLOOKUP(LIST, little(5, 4), DWO, 0, 0x20, BY_DEFAULT(2, 1));
+    LLOOKUP(LIST, little(5, 4), MAIN, 0, 0, BY_DEFAULT(2, 1));
+    LLOOKUP(LIST, little(5, 4), MAIN, 0, UINT64_C(0x100000010), BY_DEFAULT(2, 1));
+    LLOOKUP(LIST, little(5, 4), MAIN, 0, MAX - 1, BY_DEFAULT(2, 1));
+    LLOOKUP(LIST, little(5, 4), MAIN, 0, MAX, NOT_THERE);
+    LLOOKUP(LIST, big(5, 4), MAIN, 0, 0x10, BY_DEFAULT(2, 1));
+    LLOOKUP(LIST, big(5, 4), MAIN, 0, 0x10000000, DONE, 0x10000000, 0x20000000, 13, 1);
+    /* The list behind the default, the one of its end mark, and none past the section's end. */
+    LLOOKUP(LIST, little(5, 4), MAIN, 3, 0x10, DONE, 0x10, 0x20, 13, 1);
+    LLOOKUP(LIST, little(5, 4), MAIN, 3, 0x20, NOT_THERE);
+    LLOOKUP(LIST, little(5, 4), MAIN, 14, 0x10, NOT_THERE);
+    LLOOKUP(LIST, little(5, 4), MAIN, 15, 0x10, NOT_THERE);
+    LLOOKUP(LIST, little(5, 4), MAIN, 16, 0x10, CUT_SHORT);
+    LLOOKUP(LIST, little(5, 4), MAIN, MAX, 0x10, CUT_SHORT);
+    LLOOKUP(LIST, little(5, 0), MAIN, 0, 0x10, BAD_SIZE(0));
+    LLOOKUP(LIST, little(5, 6), MAIN, 16, 0x10, BAD_SIZE(6));
+    LLOOKUP(LIST, big(4, 255), DWO, MAX, MAX, BAD_SIZE(255));
+#undef LIST
+    /* Bare pairs have none: 05 is where this one begins. */
+#define LIST S("\x05\0\x08\0\x01\0\x50\0\0\0\0")
+    LLOOKUP(LIST, little(4, 2), MAIN, 0, 0x107, DONE, 0x105, 0x108, 6, 1);
+    LLOOKUP(LIST, little(4, 2), MAIN, 0, 0x108, NOT_THERE);
+    LLOOKUP(LIST, little(4, 2), DWO, 0, 0x107, CUT_SHORT);
+    LLOOKUP(LIST, little(3, 6), MAIN, 12, 0x107, BAD_SIZE(6));
+#undef LIST
+    /* What can't be read behind it, raw. */
+    LLOOKUP(S("\x05\x01\x50\x09"), little(5, 4), MAIN, 0, 0x10, NO_KIND_9);
+    LLOOKUP(S("\x05\x01\x50\x09"), little(5, 4), DWO, 0, MAX, NO_KIND_9);
+    LLOOKUP(S("\x05\x01\x50\x07\x10\0\0\0"), little(5, 4), MAIN, 0, 0x10, CUT_SHORT);
+    LLOOKUP(S("\x05\x01\x50\x05\x02\x51"), little(5, 4), MAIN, 0, 0x10, CUT_SHORT);
+    LLOOKUP(S("\x05\x01\x50\x01" NINE "\x02\0"), little(5, 4), MAIN, 0, 0x10, REFUSED(YZ_BAD_UNSIGNED_LEB128, 0));
+    LLOOKUP(S("\x05\x02\x50"), little(5, 4), MAIN, 0, 0x10, CUT_SHORT);
+    LLOOKUP(S("\x05"), little(5, 4), MAIN, 0, 0x10, CUT_SHORT);
+    /* Behind a bounded entry that holds the address it isn't read. */
+#define LIST S("\x07\x10\0\0\0\x20\0\0\0\x01\x51\x05\x01\x50\x09")
+    LLOOKUP(LIST, little(5, 4), MAIN, 0, 0x10, DONE, 0x10, 0x20, 10, 1);
+    LLOOKUP(LIST, little(5, 4), DWO, 0, 0x1f, DONE, 0x10, 0x20, 10, 1);
+    LLOOKUP(LIST, little(5, 4), MAIN, 0, 0x30, NO_KIND_9);
+    LLOOKUP(LIST, little(5, 4), MAIN, 0, MAX, NO_KIND_9);
+#undef LIST
+    LLOOKUP(S("\x05\x01\x50\x04\x01\x02\x01\x51\x09"), little(5, 4), MAIN, 0, 0x101, DONE, 0x101, 0x102, 7, 1);
+    LLOOKUP(S("\x05\x01\x50\x04\x01\x02\x01\x51\x09"), little(5, 4), MAIN, 0, 0x102, NO_KIND_9);
+    /* Twice, and then a bounded entry. */
+    LLOOKUP(S("\x05\x01\x50\x05\x01\x52\0"), little(5, 4), MAIN, 0, 5, BY_DEFAULT(2, 1));
+    LLOOKUP(S("\x05\x01\x50\x05\x01\x52\0"), little(5, 4), MAIN, 0, MAX, NOT_THERE);
+    LLOOKUP(S("\x05\0\x05\x01\x50\x08\x05\0\0\0\x01\x01\x51\0"), little(5, 4), MAIN, 0, 5, DONE, 5, 6, 12, 1);
+    LLOOKUP(S("\x05\0\x05\x01\x50\x08\x05\0\0\0\x01\x01\x51\0"), little(5, 4), MAIN, 0, 6, BY_DEFAULT(2, 0));
+    /* A failed lookup behind it, in each kind that has one. */
+#define LIST S("\x05\x01\x50\x02\0\x02\x01\x51\0")
+    LLOOKUP(LIST, little(5, 4), MAIN, 0, 5, CUT_SHORT);
+    LLOOKUP(LIST, little(5, 4), MAIN, 0, MAX, CUT_SHORT);
+    IS(location, yz_location_lookup(LIST, BIG_TABLE, 8, big(5, 4), DWO, 0, 0x100, 5), CUT_SHORT);
+#undef LIST
+    LLOOKUP(S("\x05\x01\x50\x01\x02\0"), little(5, 4), MAIN, 0, 5, CUT_SHORT);
+    LLOOKUP(S("\x05\x01\x50\x03\x02\x08\x01\x51\0"), little(5, 4), MAIN, 0, 5, CUT_SHORT);
+    LLOOKUP(S("\x05\x01\x50\x02" INDEX_2_61 "\0\x01\x51\0"), little(5, 8), MAIN, 0, 5, TOO_FAR);
+    LLOOKUP(S("\x05\x01\x50\x02\0\x01\x01\x51\x02\0\x02\x01\x52\0"), little(5, 4), MAIN, 0, 0x10, DONE, 0x10, 0x20, 7, 1);
+    LLOOKUP(S("\x05\x01\x50\x02\0\x01\x01\x51\x02\0\x02\x01\x52\0"), little(5, 4), MAIN, 0, 0x20, CUT_SHORT);
+    /* A base address behind it is the next pair's. */
+    LLOOKUP(S("\x05\x01\x50\x01\x01\x04\x01\x02\x01\x51\0"), little(5, 4), MAIN, 0, 0x21, DONE, 0x21, 0x22, 9, 1);
+    LLOOKUP(S("\x05\x01\x50\x01\x01\x04\x01\x02\x01\x51\0"), little(5, 4), MAIN, 0, 0x101, BY_DEFAULT(2, 1));
+    /* No bounded entry: an empty one, and one of removed code. */
+    LLOOKUP(S("\x07\x10\0\0\0\x10\0\0\0\x01\x51\x05\x01\x50\0"), little(5, 4), MAIN, 0, 0x10, BY_DEFAULT(13, 1));
+    LLOOKUP(S("\x08\xfe\xff\xff\xff\x01\x01\x51\x05\x01\x50\0"), little(5, 4), MAIN, 0, 0xfffffffe, BY_DEFAULT(10, 1));
+    /* A bounded entry of a default's range, in kinds 7, 8 and 4 and as a bare pair; at any other size it is shorter. */
+#define ALL_ONES "\xff\xff\xff\xff\xff\xff\xff\xff"
+#define ALL_0 "\0\0\0\0\0\0\0\0"
+    LLOOKUP(S("\x05\x01\x50\x07" ALL_0 ALL_ONES "\x01\x51\0"), little(5, 8), MAIN, 0, 5, DONE, 0, MAX, 21, 1);
+    LLOOKUP(S("\x05\x01\x50\x07" ALL_0 ALL_ONES "\x01\x51\0"), big(5, 8), DWO, 0, MAX - 1, DONE, 0, MAX, 21, 1);
+    LLOOKUP(S("\x05\x01\x50\x07" ALL_0 ALL_ONES "\x01\x51\0"), little(5, 8), MAIN, 0, MAX, NOT_THERE);
+    LLOOKUP(S("\x05\x01\x50\x07" ALL_0 ALL_ONES "\x01\x51\x09"), little(5, 8), MAIN, 0, 5, DONE, 0, MAX, 21, 1);
+    LLOOKUP(S("\x05\x01\x50\x07" ALL_0 ALL_ONES "\x01\x51\x09"), little(5, 8), MAIN, 0, MAX, NO_KIND_9);
+    LLOOKUP(S("\x08" ALL_0 "\xff\xff\xff\xff\xff\xff\xff\xff\xff\x01\x01\x51\x05\x01\x50\x09"), little(5, 8), MAIN, 0, 0, DONE,
+            0, MAX, 20, 1);
+    IS(location, yz_location_lookup(S("\x05\0\x04\0\xff\xff\xff\xff\xff\xff\xff\xff\xff\x01\x01\x51\x09"), NO_BYTES, 0,
+                                    little(5, 8), MAIN, 0, 0, 5), DONE, 0, MAX, 15, 1);
+    IS(location, yz_location_lookup(S(ALL_0 ALL_ONES "\x01\0\x51\x05"), NO_BYTES, 0, little(4, 8), MAIN, 0, 0, MAX - 1), DONE, 0,
+       MAX, 18, 1);
+    IS(location, yz_location_lookup(S(ALL_0 ALL_ONES "\x01\0\x51\x05"), NO_BYTES, 0, little(4, 8), MAIN, 0, 0, MAX), CUT_SHORT);
+    LLOOKUP(S("\x05\x01\x50\x07\0\0\0\xff\xff\xff\x01\x51\0"), little(5, 3), MAIN, 0, 0xfffffe, DONE, 0, 0xffffff, 11, 1);
+    LLOOKUP(S("\x05\x01\x50\x07\0\0\0\xff\xff\xff\x01\x51\0"), little(5, 3), MAIN, 0, 0xffffff, BY_DEFAULT(2, 1));
+#undef ALL_0
+#undef ALL_ONES
+    /* At the section's end; the byte behind an end mark isn't read. */
+    LLOOKUP(S("\x05\x01\x50"), little(5, 4), MAIN, 0, 7, BY_DEFAULT(2, 1));
+    LLOOKUP(S("\x05\x01\x50"), little(5, 4), MAIN, 0, MAX, NOT_THERE);
+    LLOOKUP(S("\x05\x01\x50"), little(5, 4), MAIN, 3, 7, NOT_THERE);
+    LLOOKUP(S("\x05\x01\x50\0\x09"), little(5, 4), MAIN, 0, 7, BY_DEFAULT(2, 1));
+    LLOOKUP(S("\x09\x05\0"), little(5, 4), MAIN, 1, 7, BY_DEFAULT(3, 0));
+    LLOOKUP(S("\x07\x10\0\0\0\x20\0\0\0\x01\x51\x05\x01\x50"), little(5, 4), MAIN, 0, 0x10, DONE, 0x10, 0x20, 10, 1);
+    LLOOKUP(S("\x07\x10\0\0\0\x20\0\0\0\x01\x51\x05\x01\x50"), little(5, 4), MAIN, 0, 0x20, BY_DEFAULT(13, 1));
+    LLOOKUP(NO_BYTES, little(4, 8), DWO, 0, 7, NOT_THERE);
+    LLOOKUP(NO_BYTES, little(6, 1), MAIN, 0, MAX, NOT_THERE);
+    LLOOKUP(NO_BYTES, little(6, 7), MAIN, 1, MAX, BAD_SIZE(7));
+    /* Split lists of every version have it. */
+#define LIST S("\x05\x01\0\x50\0")
+    LLOOKUP(LIST, little(4, 4), DWO, 0, 7, BY_DEFAULT(3, 1));
+    LLOOKUP(LIST, little(3, 1), DWO, 0, MAX - 1, BY_DEFAULT(3, 1));
+    LLOOKUP(LIST, little(0, 8), DWO, 0, MAX, NOT_THERE);
+    LLOOKUP(LIST, big(4, 4), DWO, 0, 7, CUT_SHORT);
+    LLOOKUP(LIST, little(5, 4), DWO, 0, 7, REFUSED(YZ_UNKNOWN_LOC_LISTS_ENTRY, 0x50));
+#undef LIST
+#define LIST S("\x05\0\x01\x50\x07\x12\x34\x56\x78\0\x01\x51\0")
+    LLOOKUP(LIST, big(3, 2), DWO, 0, 0x1234, DONE, 0x1234, 0x5678, 11, 1);
+    LLOOKUP(LIST, big(4, 2), DWO, 0, 0x1233, BY_DEFAULT(3, 1));
+    LLOOKUP(LIST, big(4, 2), DWO, 0, MAX, NOT_THERE);
+#undef LIST
+    LLOOKUP(S("\x05\x01\0\x50\x03\x01\x08\0\0\0\x01\0\x51\x09"), little(4, 4), DWO, 0, 0x27, DONE, 0x20, 0x28, 12, 1);
+    LLOOKUP(S("\x05\x01\0\x50\x03\x01\x08\0\0\0\x01\0\x51\x09"), little(4, 4), DWO, 0, 0x28, NO_KIND_9);
+    /* A walk has it at its place, with its whole range. */
+#define LIST S("\x05\x01\x50\x07\x10\0\0\0\x20\0\0\0\x01\x51\0")
+    walk_from(0, 7, 0);
+    LNEXT(LIST, TABLE, little(5, 4), 3, 7, 1, BY_DEFAULT(2, 1));
+    LNEXT(LIST, TABLE, little(5, 4), 14, 7, 2, DONE, 0x10, 0x20, 13, 1);
+    LNEXT(LIST, TABLE, little(5, 4), 15, 7, 3, END);
+#undef LIST
+}
+
+static void put_address(uint64_t address, yz_encoding encoding) {
+    const size_t width = encoding.address_size;
+    size_t i;
+    for (i = 0; i < width; i++)
+        put((uint8_t)(address >> 8 * (encoding.big_endian != 0 ? width - 1 - i : i)));
+}
+
+/* Entries that lists are put together of: the end mark, two that are refused, raw and by a table without rows, a default
+ * location, two bounded ones and an empty one. */
+enum { ENTRY_END, ENTRY_NO_KIND, ENTRY_NO_ROW, ENTRY_DEFAULT, ENTRY_BOUNDED, ENTRY_WHOLE, ENTRY_EMPTY, ENTRIES };
+
+/* One of these put behind the others, and the answer that it has by itself. */
+static fields put_location(unsigned which, yz_encoding encoding) {
+    static const uint8_t codes_of[ENTRIES] = {0, 9, 2, 5, 7, 7, 7};
+    const uint64_t ones = MAX >> (64 - 8 * encoding.address_size);
+    fields answer = fields_of(YZ_DONE, YZ_NO_REFUSAL, 0);
+    put(codes_of[which]);
+    if (which == ENTRY_END) return fields_of(YZ_END, YZ_NO_REFUSAL, 0);
+    if (which == ENTRY_NO_KIND) return fields_of(YZ_REFUSED, YZ_UNKNOWN_LOC_LISTS_ENTRY, 9);
+    if (which == ENTRY_NO_ROW) {
+        answer = fields_of(YZ_REFUSED, YZ_UNEXPECTED_EOF, 0);
+        put(0);
+        put(0);
+    } else if (which == ENTRY_EMPTY) {
+        answer = fields_of(YZ_NOTHING, YZ_NO_REFUSAL, 0);
+        put_address(0x18, encoding);
+        put_address(0x18, encoding);
+    } else {
+        answer.at[3] = which == ENTRY_BOUNDED ? 0x10 : 0;
+        answer.at[4] = which == ENTRY_BOUNDED ? 0x20 : which == ENTRY_WHOLE ? ones : MAX;
+        if (which != ENTRY_DEFAULT) {
+            put_address(answer.at[3], encoding);
+            put_address(answer.at[4], encoding);
+        }
+    }
+    /* An expression of one byte. */
+    if (encoding.version < 5 && encoding.big_endian != 0) put(0);
+    put(1);
+    if (encoding.version < 5 && encoding.big_endian == 0) put(0);
+    if (answer.at[0] == YZ_DONE) {
+        answer.at[5] = made_len;
+        answer.at[6] = 1;
+    }
+    put(0x50);
+    return answer;
+}
+
+/* The answer for an address, by the answers of so many entries. */
+static fields by_entries(const fields *answers, const unsigned *which, unsigned n, uint64_t address) {
+    fields kept = fields_of(YZ_NOT_THERE, YZ_NO_REFUSAL, 0);
+    unsigned i;
+    for (i = 0; i < n; i++) {
+        const fields one = answers[i];
+        if (one.at[0] == YZ_REFUSED) return one;
+        if (one.at[0] == YZ_END) return kept;
+        if (one.at[0] == YZ_NOTHING || address < one.at[3] || address >= one.at[4]) continue;
+        if (which[i] != ENTRY_DEFAULT) return one;
+        if (kept.at[0] == YZ_NOT_THERE) kept = one;
+    }
+    return kept;
+}
+
+/* All lists of up to three of these entries, with addresses at the bounds of each. */
+static bool every_order(yz_encoding encoding, yz_file_type file_type) {
+    const uint64_t ones = MAX >> (64 - 8 * encoding.address_size);
+    const uint64_t addresses[] = {0, 0x0f, 0x10, 0x1f, 0x20, ones - 1, ones, MAX - 1, MAX};
+    unsigned n, lists, list, i;
+    for (n = 0, lists = 1; n <= 3; n++, lists *= ENTRIES)
+        for (list = 0; list < lists; list++) {
+            unsigned which[3] = {0, 0, 0}, rest = list;
+            fields answers[3];
+            made_len = 0;
+            for (i = 0; i < n; i++, rest /= ENTRIES) {
+                which[i] = rest % ENTRIES;
+                answers[i] = put_location(which[i], encoding);
+            }
+            for (i = 0; i < sizeof addresses / sizeof *addresses; i++) {
+                const fields expected = by_entries(answers, which, n, addresses[i]);
+                const fields got = of_location(
+                    yz_location_lookup(made, made_len, NO_BYTES, 0, encoding, file_type, 0, 0x100, addresses[i]));
+                if (memcmp(&got, &expected, sizeof got) == 0) continue;
+                printf("test.c: version %u, split %u, size %u, big endian %u, %u entries %u %u %u, address %llx: not so\n",
+                       encoding.version, file_type == YZ_FILE_DWO, encoding.address_size, encoding.big_endian, n, which[0],
+                       which[1], which[2], (unsigned long long)addresses[i]);
+                return false;
+            }
+        }
+    return true;
+}
+
+static void orders_of_entries(void) {
+    static const uint8_t sizes[] = {1, 2, 3, 4, 8};
+    unsigned i, big_endian;
+    uint16_t version;
+    for (i = 0; i < sizeof sizes; i++)
+        for (big_endian = 0; big_endian < 2; big_endian++)
+            for (version = 3; version <= 6; version++) {
+                const yz_encoding encoding = encoded(version, sizes[i], false, big_endian);
+                CHECK(every_order(encoding, DWO));
+                if (version >= 5) CHECK(every_order(encoding, MAIN));
+            }
+}
+
 static void test_location_lookup(void) {
 #define LIST S("\x08\x10\0\0\0\x08\x01\x50\x04\x01\x02\x01\x51\x09")
     LLOOKUP(LIST, little(5, 4), MAIN, 0, 0x17, DONE, 0x10, 0x18, 7, 1);
@@ -1853,6 +2085,8 @@ static void test_location_lookup(void) {
     LLOOKUP(NO_BYTES, little(5, 3), MAIN, 1, 0, CUT_SHORT);
     IS(location, yz_location_lookup(S("\x03\0\x08\0\0\0\x01\0\x50\0"), TABLE_3, 8, little(4, 3), DWO, 0, 0, 0x12), DONE,
        0x10, 0x18, 8, 1);
+    default_locations();
+    orders_of_entries();
 }
 
 /* ---- Marks ---- */

@@ -162,7 +162,7 @@ fn join(parts: &[&[u8]]) -> Vec<u8> {
 
 fn versions(c: &mut Checks) {
     c.same(version(), VERSION);
-    c.same(VERSION, 8);
+    c.same(VERSION, 9);
     c.same((LIMIT, SHEET_MAX, CANONICAL_MAX), (3000, 48_004, 57_001));
     c.same(MARKS, 8);
 }
@@ -1789,6 +1789,237 @@ fn location_lookup(c: &mut Checks) {
     c.same(lookup(Little, 0, 0x101), Ok(Some((at(0x101, 0x102), &bytes[11..12], 11))));
     c.same(lookup(Little, 0, 0x03_0209), Err(EOF));
     c.same(lookup(Little, 16, 0), Err(EOF));
+    default_locations(c);
+    orders_of_entries(c);
+}
+
+/// What a lookup comes to: a range, and where its expression of one byte stands.
+type Found = Result<Option<(Range, usize)>>;
+
+const NOT_THERE: Found = Ok(None);
+const NO_KIND_9: Found = Err(Error::UnknownLocListsEntry(9));
+
+fn own(begin: u64, end: u64, expression: usize) -> Found {
+    Ok(Some((at(begin, end), expression)))
+}
+
+fn by_default(expression: usize) -> Found {
+    own(0, u64::MAX, expression)
+}
+
+/// How a list is written: its version, address size and byte order, and whether it is split.
+type Setting = (u16, u8, RunTimeEndian, DwarfFileType);
+
+/// A lookup with the scope's table in the list's order.
+fn look_up(list: &[u8], setting: Setting, offset: u64, address: u64) -> Found {
+    let (version, size, endian, file_type) = setting;
+    let table = DebugAddr::new(if endian == Big { BIG_TABLE } else { TABLE }, endian);
+    let (lists, offset) = (location_lists(list, endian), LocationListsOffset(offset));
+    let (encoding, base) = (encoding(version, size), DebugAddrBase(8));
+    let found = lists.lookup(offset, encoding, file_type, 0x100, &table, base, address)?;
+    Ok(found.map(|l| {
+        let x = l.data.offset();
+        assert_eq!(l.data.bytes(), &list[x..=x]);
+        (l.range, x)
+    }))
+}
+
+/// A default location is found where the list has ended without a bounded entry that holds the
+/// address.
+fn default_locations(c: &mut Checks) {
+    use DwarfFileType::{Dwo, Main};
+    const MAX: u64 = u64::MAX;
+    let mut all = |settings: &[Setting], list: &[u8], expected: &[(u64, Found)]| {
+        for (setting, (address, found)) in
+            settings.iter().flat_map(|setting| expected.iter().map(move |e| (*setting, *e)))
+        {
+            let got = look_up(list, setting, 0, address);
+            c.same((list, setting, address, got), (list, setting, address, found));
+        }
+    };
+    // From version 5 on split lists are as others.
+    let five =
+        [(5, 4, Little, Main), (5, 4, Little, Dwo), (6, 4, Little, Main), (6, 4, Little, Dwo)];
+    let first = [5, 1, 0x50, 7, 0x10, 0, 0, 0, 0x20, 0, 0, 0, 1, 0x51, 0];
+    let (bounded, default) = (own(0x10, 0x20, 13), by_default(2));
+    all(&five, &first, &[(0x10, bounded), (0x1f, bounded), (0xf, default), (0x20, default)]);
+    all(&five, &first, &[(0, default), (0x1_0000_0010, default)]);
+    all(&five, &first, &[(MAX - 1, default), (MAX, NOT_THERE)]);
+    let big = [(5, 4, Big, Main), (6, 4, Big, Dwo)];
+    all(&big, &first, &[(0x10, default), (0x1000_0000, own(0x1000_0000, 0x2000_0000, 13))]);
+    // Refusals behind it, raw and by the table, and not behind the entry found.
+    all(&five, &[5, 1, 0x50, 9], &[(0x10, NO_KIND_9), (MAX, NO_KIND_9)]);
+    all(&five, &[5, 1, 0x50, 7, 0x10, 0, 0, 0], &[(0x10, Err(EOF))]);
+    all(&five, &[5, 2, 0x50], &[(0x10, Err(EOF))]);
+    let padded = join(&[&[5, 1, 0x50, 1], &NINE, &[2, 0]]);
+    all(&five, &padded, &[(0x10, Err(Error::BadUnsignedLeb128))]);
+    let last = [7, 0x10, 0, 0, 0, 0x20, 0, 0, 0, 1, 0x51, 5, 1, 0x50, 9];
+    let bounded = own(0x10, 0x20, 10);
+    all(&five, &last, &[(0x10, bounded), (0x30, NO_KIND_9), (MAX, NO_KIND_9)]);
+    all(&five, &last[..14], &[(0x10, bounded), (0x20, by_default(13)), (MAX, NOT_THERE)]);
+    let pair = [5, 1, 0x50, 4, 1, 2, 1, 0x51, 9];
+    all(&five, &pair, &[(0x101, own(0x101, 0x102, 7)), (0x102, NO_KIND_9)]);
+    all(&five, &[5, 1, 0x50, 2, 0, 2, 1, 0x51, 0], &[(5, Err(EOF)), (MAX, Err(EOF))]);
+    all(&big, &[5, 1, 0x50, 2, 0, 2, 1, 0x51, 0], &[(5, Err(EOF))]);
+    all(&five, &[5, 1, 0x50, 1, 2, 0], &[(5, Err(EOF))]);
+    all(&five, &[5, 1, 0x50, 3, 2, 8, 1, 0x51, 0], &[(5, Err(EOF))]);
+    let rows = [5, 1, 0x50, 2, 0, 1, 1, 0x51, 2, 0, 2, 1, 0x52, 0];
+    all(&five, &rows, &[(0x10, own(0x10, 0x20, 7)), (0x20, Err(EOF))]);
+    // Twice, also with a bounded entry behind; a base address behind it.
+    all(&five, &[5, 1, 0x50, 5, 1, 0x52, 0], &[(5, default), (MAX, NOT_THERE)]);
+    let twice = [5, 1, 0x50, 5, 1, 0x52, 8, 5, 0, 0, 0, 1, 1, 0x51, 0];
+    all(&five, &twice, &[(5, own(5, 6, 13)), (6, default)]);
+    let based = [5, 1, 0x50, 1, 1, 4, 1, 2, 1, 0x51, 0];
+    all(&five, &based, &[(0x21, own(0x21, 0x22, 9)), (0x101, default)]);
+    // An empty entry, and one of removed code, hold nothing.
+    let empty = [7, 0x10, 0, 0, 0, 0x10, 0, 0, 0, 1, 0x51, 5, 1, 0x50, 0];
+    all(&five, &empty, &[(0x10, by_default(13))]);
+    let removed = [8, 0xfe, 0xff, 0xff, 0xff, 1, 1, 0x51, 5, 1, 0x50, 0];
+    all(&five, &removed, &[(0xffff_fffe, by_default(10))]);
+    // A bounded entry of the same range.
+    let eight = [(5, 8, Little, Main), (5, 8, Big, Dwo), (6, 8, Little, Dwo)];
+    let whole = join(&[&[5, 1, 0x50, 7], &[0; 8], &[0xff; 8], &[1, 0x51, 0]]);
+    let bounded = own(0, MAX, 21);
+    all(&eight, &whole, &[(5, bounded), (0, bounded), (MAX - 1, bounded), (MAX, NOT_THERE)]);
+    let whole = join(&[&whole[..22], &[9]]);
+    all(&eight, &whole, &[(5, bounded), (MAX, NO_KIND_9)]);
+    let length = join(&[&[8], &[0; 8], &[0xff; 9], &[1, 1, 0x51, 5, 1, 0x50, 9]]);
+    all(&eight, &length, &[(0, own(0, MAX, 20)), (MAX, NO_KIND_9)]);
+    let three = [5, 1, 0x50, 7, 0, 0, 0, 0xff, 0xff, 0xff, 1, 0x51, 0];
+    all(
+        &[(5, 3, Little, Main), (5, 3, Big, Dwo)],
+        &three,
+        &[(0xff_fffe, own(0, 0xff_ffff, 11)), (0xff_ffff, default)],
+    );
+    // The section's end, and what is behind an end mark.
+    all(&five, &[5, 1, 0x50], &[(7, default), (MAX, NOT_THERE)]);
+    all(&five, &[5, 1, 0x50, 0, 9], &[(7, default), (MAX, NOT_THERE)]);
+    all(&five, &[], &[(0, NOT_THERE), (MAX, NOT_THERE)]);
+    // Split lists before version 5; bare pairs have no default location.
+    let four = [(4, 4, Little, Dwo), (3, 4, Little, Dwo), (2, 8, Little, Dwo)];
+    let gnu = [5, 1, 0, 0x50, 0];
+    all(&four, &gnu, &[(7, by_default(3)), (MAX - 1, by_default(3)), (MAX, NOT_THERE)]);
+    all(&[(4, 4, Big, Dwo)], &gnu, &[(7, Err(EOF))]);
+    let gnu = [5, 0, 1, 0x50, 7, 0x12, 0x34, 0x56, 0x78, 0, 1, 0x51, 0];
+    all(
+        &[(3, 2, Big, Dwo), (4, 2, Big, Dwo)],
+        &gnu,
+        &[(0x1234, own(0x1234, 0x5678, 11)), (0x1233, by_default(3)), (MAX, NOT_THERE)],
+    );
+    let gnu = [5, 1, 0, 0x50, 3, 1, 8, 0, 0, 0, 1, 0, 0x51, 9];
+    all(&four[..2], &gnu, &[(0x27, own(0x20, 0x28, 12)), (0x28, NO_KIND_9)]);
+    let bare = [5, 0, 8, 0, 1, 0, 0x50, 0, 0, 0, 0];
+    all(&[(4, 2, Little, Main)], &bare, &[(0x107, own(0x105, 0x108, 6)), (0x108, NOT_THERE)]);
+    all(&[(4, 2, Little, Dwo)], &bare, &[(0x107, Err(EOF))]);
+    // Offsets, and sizes that aren't read.
+    for (offset, found) in [
+        (3, own(0x10, 0x20, 13)),
+        (14, NOT_THERE),
+        (15, NOT_THERE),
+        (16, Err(EOF)),
+        (MAX, Err(EOF)),
+    ] {
+        c.same((offset, look_up(&first, five[0], offset, 0x10)), (offset, found));
+    }
+    for size in [0, 5, 6, 7, 9, 255] {
+        let refused = Err(Error::UnsupportedAddressSize(size.into()));
+        for (list, offset, version) in [(&first[..], 0, 5), (&first, 16, 4), (&[], MAX, 6)] {
+            c.same(look_up(list, (version, size, Little, Dwo), offset, 0x10), refused);
+        }
+    }
+    // A walk has it at its place, with its whole range.
+    let (x, y) = (&first[2..3], &first[13..14]);
+    c.same(
+        locations(&first, encoding(5, 4), false, 7),
+        vec![Ok((at(0, MAX), x, 2)), Ok((at(0x10, 0x20), y, 13))],
+    );
+}
+
+/// What an entry comes to.
+#[derive(Debug, Clone, Copy)]
+enum Comes {
+    ToBounded(Range),
+    ToDefault,
+    ToNothing,
+    ToRefusal(Error),
+    ToEnd,
+}
+
+/// The entries that lists are put together of, with what they come to: the end mark, two that are
+/// refused, raw and by a row that the table lacks, a default location, two bounded ones and an empty one.
+/// An expression is the entry's last byte.
+fn entries_of((version, size, endian, _): Setting) -> [(Vec<u8>, Comes); 7] {
+    let size = usize::from(size);
+    let address = |address: u64| match endian {
+        Big => address.to_be_bytes()[8 - size..].to_vec(),
+        Little => address.to_le_bytes()[..size].to_vec(),
+    };
+    let expression: &[u8] = match (version, endian) {
+        (5.., _) => &[1, 0x50],
+        (_, Little) => &[1, 0, 0x50],
+        (_, Big) => &[0, 1, 0x50],
+    };
+    let pair = |begin, end| join(&[&[7], &address(begin), &address(end), expression]);
+    let ones = u64::MAX >> (64 - 8 * size);
+    [
+        (vec![0], Comes::ToEnd),
+        (vec![9], Comes::ToRefusal(Error::UnknownLocListsEntry(9))),
+        (join(&[&[2, 0, 9], expression]), Comes::ToRefusal(EOF)),
+        (join(&[&[5], expression]), Comes::ToDefault),
+        (pair(0x10, 0x20), Comes::ToBounded(at(0x10, 0x20))),
+        (pair(0, ones), Comes::ToBounded(at(0, ones))),
+        (pair(0x18, 0x18), Comes::ToNothing),
+    ]
+}
+
+/// What a lookup comes to by what the entries do, each with the place of its last byte.
+fn by_entries(entries: &[(Comes, usize)], address: u64) -> Found {
+    let mut kept = NOT_THERE;
+    for (comes, expression) in entries {
+        match *comes {
+            Comes::ToEnd => break,
+            Comes::ToRefusal(e) => return Err(e),
+            Comes::ToBounded(range) if (range.begin..range.end).contains(&address) => {
+                return Ok(Some((range, *expression)));
+            }
+            Comes::ToDefault if kept == NOT_THERE && address < u64::MAX => {
+                kept = by_default(*expression);
+            }
+            Comes::ToBounded(_) | Comes::ToDefault | Comes::ToNothing => {}
+        }
+    }
+    kept
+}
+
+/// All lists of up to three of these entries, with addresses at the bounds of each.
+fn orders_of_entries(c: &mut Checks) {
+    let sizes = [1, 2, 3, 4, 8].into_iter().flat_map(|size| [(size, Little), (size, Big)]);
+    for ((size, endian), version) in sizes.flat_map(|s| (3..=6).map(move |version| (s, version))) {
+        for file_type in [DwarfFileType::Main, DwarfFileType::Dwo] {
+            if version < 5 && file_type == DwarfFileType::Main {
+                continue;
+            }
+            let setting = (version, size, endian, file_type);
+            let (choices, ones) = (entries_of(setting), u64::MAX >> (64 - 8 * size));
+            let addresses = [0, 0xf, 0x10, 0x1f, 0x20, ones - 1, ones, u64::MAX - 1, u64::MAX];
+            let mut wrong = Vec::new();
+            for (n, number) in (0..=3).flat_map(|n| (0..7usize.pow(n)).map(move |list| (n, list))) {
+                let (mut list, mut comes) = (Vec::new(), Vec::new());
+                for digit in 0..n {
+                    let (entry, to) = &choices[number / 7usize.pow(digit) % 7];
+                    list.extend(entry);
+                    comes.push((*to, list.len() - 1));
+                }
+                for address in addresses {
+                    let got = look_up(&list, setting, 0, address);
+                    if got != by_entries(&comes, address) {
+                        wrong.push((list.clone(), address, got));
+                    }
+                }
+            }
+            c.same((setting, wrong), (setting, vec![]));
+        }
+    }
 }
 
 // Marks

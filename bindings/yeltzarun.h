@@ -56,8 +56,8 @@
 extern "C" {
 #endif
 
-/* The version of this interface; it changes with every change of a struct, a number or a call. */
-#define YZ_VERSION 8
+/* The version of this interface; it changes with every change of a struct, a number, a call or what a call answers. */
+#define YZ_VERSION 9
 
 /* The version of the library that is linked; the header is for it where this is YZ_VERSION. */
 uint32_t yz_version(void);
@@ -518,15 +518,18 @@ yz_done yz_mark_set(uint64_t number, const yz_walk *walk, yz_marks *marks);
  * not set. */
 yz_done yz_mark_return(uint64_t number, const yz_marks *marks, yz_walk *walk);
 
-/* ---- Lookups: the first entry that holds an address. Done, not there, or refused as opening and .._next are, where that is
- * met before the entry. ---- */
+/* ---- Lookups: the entry of a list that holds an address. Done, not there, or refused as opening and .._next are, by a failed
+ * lookup in the address table, too, where that is met before the entry found. What follows that entry is not read. ---- */
 
-/* The range that holds an address. */
+/* The range of the first entry that holds an address. */
 yz_range yz_range_lookup(const uint8_t *section, size_t section_len, const uint8_t *debug_addr, size_t debug_addr_len,
                          uint64_t debug_addr_base, yz_encoding encoding, uint64_t offset, uint64_t base_address,
                          uint64_t address);
 
-/* The location that holds an address. */
+/* The location of the first bounded entry that holds an address; where the list has ended without one, at its end mark or the
+ * section's end, that of the first default location. Bounded is every kind but YZ_LLE_DEFAULT_LOCATION, with the bounds 0 and
+ * 2^64 - 1, too. A default location has the range 0 to 2^64 - 1, as in a walk, and its own expression; 2^64 - 1 it does not hold.
+ * The list is read on behind it, and what is refused there is the answer where no bounded entry before that holds the address. */
 yz_location yz_location_lookup(const uint8_t *section, size_t section_len, const uint8_t *debug_addr,
                                size_t debug_addr_len, uint64_t debug_addr_base, yz_encoding encoding,
                                yz_file_type file_type, uint64_t offset, uint64_t base_address, uint64_t address);

@@ -90,7 +90,34 @@ impl<'a> LocationLists<'a> {
         answer.done().map(LocationListsOffset)
     }
 
-    /// The first location that holds an address.
+    /// The location of the first bounded entry that holds an address; where the list has ended without
+    /// one, at its end mark or the section's end, that of the first default location. Bounded is every
+    /// entry but [`RawLocListEntry::DefaultLocation`], one from 0 to 2^64 - 1, too. A default location has
+    /// that range here as in a walk, and does not hold 2^64 - 1.
+    ///
+    /// What is refused before the bounded entry is the answer, behind a default location, too, and so
+    /// is a failed lookup in the address table. What follows the bounded entry isn't read.
+    ///
+    /// ```
+    /// use yeltzarun::*;
+    ///
+    /// // A default location, and one from 0x10 to 0x20 behind it.
+    /// let list = [5, 1, 0x50, 7, 0x10, 0, 0, 0, 0x20, 0, 0, 0, 1, 0x51, 0];
+    /// let section = DebugLocLists::new(&list, RunTimeEndian::Little);
+    /// let lists = LocationLists::new(DebugLoc::default(), section);
+    /// let encoding = Encoding { address_size: 4, format: Format::Dwarf32, version: 5 };
+    /// let (offset, main) = (LocationListsOffset(0), DwarfFileType::Main);
+    /// let (table, base) = (DebugAddr::default(), DebugAddrBase(0));
+    /// let lookup = |address| lists.lookup(offset, encoding, main, 0, &table, base, address);
+    ///
+    /// let own = lookup(0x10)?.unwrap();
+    /// assert_eq!((own.range, own.data.bytes()), (Range { begin: 0x10, end: 0x20 }, &[0x51][..]));
+    /// let default = lookup(0x20)?.unwrap();
+    /// assert_eq!(default.range, Range { begin: 0, end: u64::MAX });
+    /// assert_eq!(default.data.bytes(), [0x50]);
+    /// assert_eq!(lookup(u64::MAX)?, None);
+    /// # Ok::<(), Error>(())
+    /// ```
     #[allow(clippy::too_many_arguments)]
     pub fn lookup(
         &self,

@@ -1,7 +1,7 @@
-# A unit of DWARF 5 by hand, for what no compiler writes: a default location, locations that overlap, and, by the symbols
-# that the assembler is given, an attribute that is missing (NO_..), a list that is refused (BAD_KIND), another address size
-# (THREE_BYTES), LEB128 numbers with a byte more than they need (PADDED), or codes for the kinds of range list entries that are so
-# much above DWARF's (CODES).
+# A unit of DWARF 5 by hand, for what no compiler writes: default locations, before another and behind it, locations that overlap,
+# and, by the symbols that the assembler is given, an attribute that is missing (NO_..), a list that is refused (BAD_KIND), also
+# behind a default location (BAD_END), another address size (THREE_BYTES), LEB128 numbers with a byte more than they need (PADDED),
+# or codes for the kinds of range list entries that are so much above DWARF's (CODES).
 
         .ifndef CODES
         .set    CODES, 0
@@ -81,6 +81,9 @@ _start: .fill   0x20, 1, 0x90
         .uleb128 3
         .asciz  "late"
         .uleb128 1
+        .uleb128 3
+        .asciz  "spare"
+        .uleb128 2
         .byte   0, 0
 2:
 
@@ -114,10 +117,11 @@ range_offsets:
         .long   2f - 1f
 1:      .short  5
         .byte   8, 0
-        .long   2
+        .long   3
 location_offsets:
         .long   3f - location_offsets
         .long   4f - location_offsets
+        .long   5f - location_offsets
 3:      .byte   5                       # DW_LLE_default_location: DW_OP_reg0
         .uleb128 1
         .byte   0x50
@@ -130,6 +134,9 @@ location_offsets:
         .byte   4                       # DW_LLE_offset_pair: DW_OP_reg4
         .uleb128 4, 8, 1
         .byte   0x54
+        .ifdef BAD_END
+        .byte   9
+        .endif
         .byte   0                       # DW_LLE_end_of_list
 4:
         .ifdef BAD_KIND
@@ -140,4 +147,14 @@ location_offsets:
         .uleb128 8, 2
         .byte   0xa1, 0
         .byte   0                       # DW_LLE_end_of_list
+5:      .byte   5                       # DW_LLE_default_location: DW_OP_reg8
+        .uleb128 1
+        .byte   0x58
+        .byte   8                       # DW_LLE_start_length: DW_OP_reg9
+        .quad   _start + 0x18
+        .uleb128 4, 1
+        .byte   0x59
+        .byte   5                       # DW_LLE_default_location: DW_OP_reg10
+        .uleb128 1
+        .byte   0x5a                    # and the section's end
 2:

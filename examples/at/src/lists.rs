@@ -338,19 +338,19 @@ impl Context {
         }))
     }
 
-    /// The locations of a list that hold at an address: the first that the library's lookup finds,
-    /// and then those that overlap with it. A default location is one only where no other is.
+    /// The locations of a list that hold at an address: the one that the library's lookup finds, and
+    /// then those that overlap with it. A default location and a bounded one never stand together.
     pub fn locations_at(&self, place: Place, address: u64) -> Outcome<Vec<Location>> {
         let (base_address, table) = self.location_bases(place)?;
         let (lists, offset) = (self.location_lists(), LocationListsOffset(place.offset));
         let (debug_addr, split) = (self.debug_addr(), self.file_type);
         let refused = || Wrong::refused(self.at(place));
-        let first = lists
+        let Some(first) = lists
             .lookup(offset, self.encoding, split, base_address, &debug_addr, table, address)
-            .map_err(refused())?;
-        if first.is_none() {
+            .map_err(refused())?
+        else {
             return Ok(Vec::new());
-        }
+        };
         let mut walk = match split {
             DwarfFileType::Main => {
                 lists.locations(offset, self.encoding, base_address, &debug_addr, table)
@@ -360,15 +360,20 @@ impl Context {
             }
         }
         .map_err(refused())?;
-        let (mut found, mut default) = (Vec::new(), Vec::new());
+        // Whether what was found is a default location, from its entry on, which its expression tells.
+        let (mut found, mut default) = (Vec::new(), None);
         while let Some(raw) = walk.next_raw().map_err(refused())? {
             let is_default = matches!(raw, RawLocListEntry::DefaultLocation { .. });
             let Some(entry) = walk.convert_raw(raw).map_err(refused())? else { continue };
-            if entry.range.begin <= address && address < entry.range.end {
-                if is_default { &mut default } else { &mut found }.push(Location::of(entry));
+            if entry == first {
+                default = Some(is_default);
+            }
+            let holds = entry.range.begin <= address && address < entry.range.end;
+            if holds && default == Some(is_default) {
+                found.push(Location::of(entry));
             }
         }
-        Ok(if found.is_empty() { default } else { found })
+        Ok(found)
     }
 
     /// The entries of a location list, likewise.
