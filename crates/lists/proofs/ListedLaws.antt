@@ -3,6 +3,7 @@ use mathlib.Core.Bool.{Bool, true, false}
 use mathlib.Core.List.{List}
 use mathlib.Core.Path.{_≡_, refl, ap, _∙_}
 use Prim.Native.Nat.{ℕ}
+use native.Mathlib.Omega.{arith}
 use Rattle.bytes.specs.Read.{Result, gives, refused, pick}
 use Rattle.bytes.specs.Reader.{isSize}
 use Rattle.bytes.specs.declared.common.DebugAddrIndex.{DebugAddrIndex}
@@ -17,6 +18,8 @@ use Rattle.entries.specs.declared.RawRngListEntry.{RawRngListEntry}
 use Rattle.entries.specs.declared.RawLocListEntry.{RawLocListEntry}
 use Rattle.lists.specs.Convert.{Turn, range, rebase, skip, convert, bounds, expressionOf}
 use Rattle.lists.specs.Walk.{Listing, ranges, Item, item, Outcome, outcome, converted, convertRaw, boundsIn, carriedIn, dataIn, nextIn, noted, notedIn, outcomeIn}
+use Rattle.lists.specs.Walks.{isDefault}
+use Rattle.lists.specs.Steps.{Step as OneStep, yields, rebases, passes, fails, ended as over, Located, isDefaultIn, steppedIn}
 use Rattle.lists.specs.declared.Walk.{Walk}
 
 -- an answer for a location is the code's own
@@ -29,6 +32,23 @@ pub noted-same : (q : Next (Noted RawLocListEntry) Walk) → notedIn true q ≡ 
 noted-same (hands (gives x) w) = refl
 noted-same (ends w) = refl
 noted-same (hands (refused n vs) w) = refl
+
+pub stepped-same : (q : Result (OneStep (Located Expression))) → steppedIn true q ≡ q
+stepped-same (gives (yields (item b e d) c)) = refl
+stepped-same (gives (rebases b c)) = refl
+stepped-same (gives (passes c)) = refl
+stepped-same (gives (fails n vs c)) = refl
+stepped-same (gives over) = refl
+stepped-same (refused n vs) = refl
+
+-- a default location is one of a location list
+pub default-in : (l : Bool) (e : RawLocListEntry) → l ≡ true → isDefault e ≡ isDefaultIn l (entryIn l e)
+default-in true e h = refl
+default-in false e h = let z : _≡_ {A = ℕ} 0 1 = cc in absurd (omega arith)
+
+pub default-not : (l : Bool) (e : RawLocListEntry) → l ≡ false → false ≡ isDefaultIn l (entryIn l e)
+default-not true e h = let z : _≡_ {A = ℕ} 0 1 = cc in absurd (omega arith)
+default-not false e h = refl
 
 -- what a raw reader answers, without the padding
 module _ {E : Type 0} where

@@ -5,18 +5,21 @@ use mathlib.Core.Logic.{⊎-elim}
 use mathlib.Core.Path.{_≡_, refl, sym, ap, _∙_, subst}
 use Prim.Native.Nat.{ℕ, _≤_, _<_}
 use native.Mathlib.Omega.{arith}
-use Rattle.bytes.specs.Read.{Result, gives, refused, got, Read}
+use borrow.Author.Tests.{le-leb, lt-leb}
+use lib.Dec.{leb}
+use Rattle.bytes.specs.Read.{Result, gives, refused, got, Read, pick}
 use Rattle.bytes.specs.declared.common.DebugAddrIndex.{DebugAddrIndex}
 use Rattle.bytes.proofs.Order.{lt-or-le}
 use Rattle.entries.specs.Forms.{Raw, stop, entry}
+use Rattle.entries.specs.Listed.{entryIn}
 use Rattle.entries.specs.declared.Expression.{Expression}
 use Rattle.entries.specs.declared.RawLocListEntry.{RawLocListEntry}
 use Rattle.lists.specs.Open.{movedTo, readTo, rebased}
 use Rattle.lists.specs.Convert.{Turn, range, rebase, skip, convert, expressionOf}
-use Rattle.lists.specs.Walk.{Listing, Item, Trace, over, handed, onTurn, onRead, trace}
-use Rattle.lists.specs.Walks.{isDefault}
-use Rattle.lists.specs.Steps.{Step, yields, rebases, passes, fails, ended, turned, onEntry, step, Located, located}
+use Rattle.lists.specs.Walk.{Listing, CarriedIn, dataIn, Item, Trace, over, handed, onTurn, onRead, trace}
+use Rattle.lists.specs.Steps.{Step, yields, rebases, passes, fails, ended, turned, onEntry, step, Located, isDefaultIn, locatedIn}
 use Rattle.lists.specs.declared.Walk.{Walk}
+use Rattle.lists.proofs.ListedLaws.{carried-in}
 use Rattle.lists.proofs.WalkLaws.{Moved, trace-over, trace-step}
 
 module _ (l : Listing) (table : DebugAddrIndex → Result ℕ) (size at base : ℕ) where
@@ -33,8 +36,9 @@ module _ (l : Listing) (table : DebugAddrIndex → Result ℕ) (size at base : �
   unfolding step
   step-turned q f g = rw (f, g) (sym (ap (onEntry l table size base) q))
 
-pub located-is : (e : RawLocListEntry) {x : Expression} {t : Bool} → x ≡ expressionOf e → t ≡ isDefault e → _≡_ {A = Located} (record { expression = x; byDefault = t }) (located e)
-located-is e f g = rw (f, g)
+pub located-is : (l : Bool) (e : RawLocListEntry) {x : Expression} {t : Bool} → x ≡ expressionOf e → t ≡ isDefaultIn l (entryIn l e)
+    → _≡_ {A = Located (CarriedIn l)} (record { carries = dataIn l x; byDefault = t }) (locatedIn l (entryIn l e))
+located-is l e f g = rw (f, g, carried-in l e)
 
 -- the step's place is past that of the walk, and in the section
 abbrev pub Stepping : {D : Type 0} → ℕ → ℕ → Result (Step D) → Type 0
@@ -118,3 +122,7 @@ module _ (l : Listing) (table : DebugAddrIndex → Result ℕ) (size len : ℕ) 
 
     pub stepped-end : step l table size (w .at) (w .«base_address») ≡ gives ended → (v : Walk) × (trace l table size len w ≡ over v)
     stepped-end q = ⊎-elim (λ h. (readTo len w, step-on w h q)) (λ h. (w, trace-over l table size len past w h)) (lt-or-le (w .at) len)
+
+    -- before the section's end its end mark is read, and at or past it nothing is
+    pub stepped-end-at : step l table size (w .at) (w .«base_address») ≡ gives ended → trace l table size len w ≡ over (pick (leb len (w .at)) w (readTo len w))
+    stepped-end-at q = ⊎-elim (λ h. rw (lt-leb len (w .at) h) (step-on w h q)) (λ h. rw (le-leb len (w .at) h) (trace-over l table size len past w h)) (lt-or-le (w .at) len)

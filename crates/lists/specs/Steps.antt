@@ -1,5 +1,5 @@
--- One entry of a list, and what it comes to under a base address: what a lookup in a location list goes by, where `next` would not
--- say which entry a location comes from.
+-- One entry of a list, and what it comes to under a base address: what lookups go by where `next` would not say which entry a location
+-- comes from, or how many entries were read.
 use Prim.Native.Nat.{ℕ}
 use mathlib.Core.Bool.{Bool, true, false}
 use mathlib.Core.List.{List}
@@ -12,8 +12,10 @@ use Rattle.bytes.specs.declared.endianity.RunTimeEndian.{RunTimeEndian}
 use Rattle.entries.specs.Forms.{Raw, stop, entry}
 use Rattle.entries.specs.declared.Expression.{Expression}
 use Rattle.entries.specs.declared.RawLocListEntry.{RawLocListEntry}
-use Rattle.lists.specs.Convert.{Turn, range, rebase, skip, convert, tableAt, expressionOf}
-use Rattle.lists.specs.Walk.{Listing, locations, Item, item}
+use Rattle.entries.specs.Listed.{EntryIn}
+use Rattle.entries.specs.Numbers.{Coding, dwarf}
+use Rattle.lists.specs.Convert.{Turn, range, rebase, skip, convert, tableAt}
+use Rattle.lists.specs.Walk.{Listing, CarriedIn, carriedIn, dataIn, listed, Item, item}
 use Rattle.lists.specs.Walks.{isDefault, carriedAs}
 use Rattle.lists.specs.declared.loclists.Stepped.{Stepped}
 use Rattle.lists.specs.declared.loclists.Stepped.the-variants as code
@@ -40,24 +42,45 @@ onEntry l table size base (refused n vs) = refused n vs
 unfoldable pub step : (l : Listing) → (DebugAddrIndex → Result ℕ) → ℕ → ℕ → ℕ → Result (Step (l .Carried))
 step l table size at base = onEntry l table size base (l .read at)
 
--- a location's expression, and whether its entry is a default location
-pub record Located : Type 0 where
-  pub expression : Expression
+-- what an item carries, and whether its entry is a default location
+pub record Located (D : Type 0) : Type 0 where
+  pub carries : D
   pub byDefault : Bool
 
-abbrev pub located : RawLocListEntry → Located
-located e = record { expression = expressionOf e; byDefault = isDefault e }
+-- a range list has no default location
+abbrev pub isDefaultIn : (l : Bool) → EntryIn l → Bool
+isDefaultIn true e = isDefault e
+isDefaultIn false e = false
 
-abbrev pub locationStep : Bool → Encoding → RunTimeEndian → List ℕ → List ℕ → DebugAddrBase → ℕ → ℕ → Result (Step Located)
-locationStep split encoding endian s table tableBase at base =
-    step (carriedAs (locations split encoding endian s) located) (tableAt endian encoding tableBase table) (encoding .«address_size») at base
+abbrev pub locatedIn : (l : Bool) → EntryIn l → Located (CarriedIn l)
+locatedIn l e = record { carries = carriedIn l e; byDefault = isDefaultIn l e }
+
+abbrev pub located : RawLocListEntry → Located Expression
+located e = locatedIn true e
+
+-- both lists' step, from the section, the address table, its base, the place and the base address
+abbrev pub stepOf : (l : Bool) → Coding → Encoding → RunTimeEndian → List ℕ → List ℕ → DebugAddrBase → ℕ → ℕ → Result (Step (Located (CarriedIn l)))
+stepOf l coding encoding endian s table tableBase at base =
+    step (carriedAs (listed l coding encoding endian s) (locatedIn l)) (tableAt endian encoding tableBase table) (encoding .«address_size») at base
+
+abbrev pub locationStep : Bool → Encoding → RunTimeEndian → List ℕ → List ℕ → DebugAddrBase → ℕ → ℕ → Result (Step (Located Expression))
+locationStep split encoding endian s table tableBase at base = stepOf true (dwarf split) encoding endian s table tableBase at base
 
 -- the code's answer told as the definition's
-abbrev pub toldStepped : Stepped → Result (Step Located)
-toldStepped (code.Bounded x c) = gives (yields (item (x .range .begin) (x .range .end) (record { expression = x .«data»; byDefault = false })) c)
-toldStepped (code.Default x c) = gives (yields (item (x .range .begin) (x .range .end) (record { expression = x .«data»; byDefault = true })) c)
+abbrev pub toldStepped : Stepped → Result (Step (Located Expression))
+toldStepped (code.Bounded x c) = gives (yields (item (x .range .begin) (x .range .end) (record { carries = x .«data»; byDefault = false })) c)
+toldStepped (code.Default x c) = gives (yields (item (x .range .begin) (x .range .end) (record { carries = x .«data»; byDefault = true })) c)
 toldStepped (code.Base b c) = gives (rebases b c)
 toldStepped (code.Nothing c) = gives (passes c)
 toldStepped (code.Failed e c) = gives (fails (number e) (values e) c)
 toldStepped code.End = gives ended
 toldStepped (code.Refused e) = refusal e
+
+-- and as its list's
+abbrev pub steppedIn : (l : Bool) → Result (Step (Located Expression)) → Result (Step (Located (CarriedIn l)))
+steppedIn l (gives (yields (item b e d) c)) = gives (yields (item b e (record { carries = dataIn l (d .carries); byDefault = d .byDefault })) c)
+steppedIn l (gives (rebases b c)) = gives (rebases b c)
+steppedIn l (gives (passes c)) = gives (passes c)
+steppedIn l (gives (fails n vs c)) = gives (fails n vs c)
+steppedIn l (gives ended) = gives ended
+steppedIn l (refused n vs) = refused n vs

@@ -10,6 +10,8 @@ use entries::RawRngListEntry;
 use tables::addr::AddressAnswer;
 ghost use mathlib.Core.Path.{_≡_};
 ghost use Rattle.tables.specs.Addr.{addressAt};
+ghost use Rattle.entries.specs.Listed.{entryIn};
+ghost use Rattle.lists.specs.Steps.{isDefaultIn};
 ghost use Rattle.lists.specs.Walks.{isDefault};
 ghost use Rattle.lists.specs.Convert.{toldTurn, toldUnchecked, bounded, offsets, convert, expressionOf, passedOf, tableAt};
 
@@ -160,4 +162,14 @@ pub fn is_default(raw: RawLocListEntry) -> bool
         RawLocListEntry::StartEnd(_, _, _) => false,
         RawLocListEntry::StartLength(_, _, _) => false,
     }
+}
+
+// The same of an entry of either list: a range list has no default location.
+pub fn is_default_in(locations: bool, raw: RawLocListEntry) -> bool
+    ensures { λ r. ⌜ r ≡ isDefaultIn locations (entryIn locations raw) ⌝ }
+{
+    if locations {
+        return is_default(raw);
+    }
+    false
 }

@@ -6,6 +6,7 @@ use super::convert::Converted;
 use super::loclists::LocationAnswer;
 use super::loclists::LocationConverted;
 use super::loclists::RawLocationAnswer;
+use super::loclists::Stepped;
 use bytes::common::DebugAddrBase;
 use bytes::common::Encoding;
 use bytes::endianity::RunTimeEndian;
@@ -17,6 +18,7 @@ use entries::RawRngListEntry;
 ghost use mathlib.Core.Path.{_≡_};
 ghost use Rattle.entries.specs.Numbers.{codingOf};
 ghost use Rattle.lists.specs.Convert.{tableAt};
+ghost use Rattle.lists.specs.Steps.{toldStepped, steppedIn, stepOf};
 ghost use Rattle.lists.specs.Walk.{toldRawLocation, notedIn, notedOf, toldConvertedLocation, converted, toldNextLocation, nextIn, nextOf};
 
 // The next raw entry, and whether some LEB128 number of it is padded: 6 with the size before all else, then the refusals of an
@@ -224,5 +226,60 @@ pub fn next(
                 entries: walk.entries,
             },
         )
+    }
+}
+
+// The entry at a place of a list, and what it comes to under a base address: the refusals of an entry, then those of the address
+// table. At or past the section's end, the end. Whether a location is a default one is told by the variant at once: kept beside
+// the location until its range was looked at, it costs 5 % more instructions in the median.
+pub fn step(
+    section: &[u8],
+    debug_addr: &[u8],
+    debug_addr_base: DebugAddrBase,
+    at: usize,
+    base_address: u64,
+    encoding: Encoding,
+    endian: RunTimeEndian,
+    locations: bool,
+    split: bool,
+    by_table: bool,
+    kinds: &[u8],
+) -> Stepped
+    ensures { λ r. ⌜ steppedIn locations (toldStepped r) ≡ stepOf locations (codingOf split «by_table» (now (kinds .entry))) encoding endian (now (section .entry)) (now («debug_addr» .entry)) «debug_addr_base» at «base_address» ⌝ }
+{
+    match entries::raw::raw_entry(
+        section,
+        at,
+        encoding,
+        endian,
+        locations,
+        split,
+        by_table,
+        kinds,
+    ) {
+        LocationStep::Refused(e) => Stepped::Refused(e),
+        LocationStep::End => Stepped::End,
+        LocationStep::Entry(raw, c) => {
+            let bounds = entries::raw::bounds_of(raw);
+            let data = super::convert::expression_of(raw);
+            match super::convert::convert_entry(
+                bounds,
+                debug_addr,
+                debug_addr_base,
+                base_address,
+                encoding,
+                endian,
+            ) {
+                Converted::Range(range) => {
+                    if super::convert::is_default_in(locations, raw) {
+                        return Stepped::Default(LocationListEntry { range, data }, c);
+                    }
+                    Stepped::Bounded(LocationListEntry { range, data }, c)
+                }
+                Converted::Base(b) => Stepped::Base(b, c),
+                Converted::Skip => Stepped::Nothing(c),
+                Converted::Refused(e) => Stepped::Failed(e, c),
+            }
+        }
     }
 }

@@ -2,7 +2,6 @@
 use super::LocationListEntry;
 use super::Opened;
 use super::Walk;
-use super::convert::Converted;
 use bytes::common::DebugAddrBase;
 use bytes::common::DwarfFileType;
 use bytes::common::Encoding;
@@ -10,7 +9,6 @@ use bytes::common::LocationListsOffset;
 use bytes::endianity::RunTimeEndian;
 use bytes::error::Error;
 use entries::Expression;
-use entries::LocationStep;
 use entries::RawLocListEntry;
 ghost use mathlib.Core.Path.{_≡_};
 ghost use Rattle.lists.specs.Open.{toldOpened, opened, sectionFor};
@@ -147,8 +145,7 @@ pub enum Stepped {
 }
 
 // The entry at a place of a list, plain or split, and what it comes to under a base address: the refusals of an entry, then those
-// of the address table. At or past the section's end, the end. Whether a location is a default one is told by the variant at once:
-// kept beside the location until its range was looked at, it costs 5 % more instructions in the median.
+// of the address table. At or past the section's end, the end.
 pub fn step(
     section: &[u8],
     debug_addr: &[u8],
@@ -161,32 +158,19 @@ pub fn step(
 ) -> Stepped
     ensures { λ r. ⌜ toldStepped r ≡ locationStep split encoding endian (now (section .entry)) (now («debug_addr» .entry)) «debug_addr_base» at «base_address» ⌝ }
 {
-    match entries::raw::raw_entry(section, at, encoding, endian, true, split, false, section) {
-        LocationStep::Refused(e) => Stepped::Refused(e),
-        LocationStep::End => Stepped::End,
-        LocationStep::Entry(raw, c) => {
-            let bounds = entries::raw::bounds_of(raw);
-            let data = super::convert::expression_of(raw);
-            match super::convert::convert_entry(
-                bounds,
-                debug_addr,
-                debug_addr_base,
-                base_address,
-                encoding,
-                endian,
-            ) {
-                Converted::Range(range) => {
-                    if super::convert::is_default(raw) {
-                        return Stepped::Default(LocationListEntry { range, data }, c);
-                    }
-                    Stepped::Bounded(LocationListEntry { range, data }, c)
-                }
-                Converted::Base(b) => Stepped::Base(b, c),
-                Converted::Skip => Stepped::Nothing(c),
-                Converted::Refused(e) => Stepped::Failed(e, c),
-            }
-        }
-    }
+    super::listed::step(
+        section,
+        debug_addr,
+        debug_addr_base,
+        at,
+        base_address,
+        encoding,
+        endian,
+        true,
+        split,
+        false,
+        section,
+    )
 }
 
 // The bytes of an expression as a part of the section; the empty part where it does not lie in the section.

@@ -58,6 +58,12 @@ only p (over w) = over w
 only p (handed (gives (item b e d)) w t) = pick (p d) (handed (gives (item b e d)) w (only p t)) (only p t)
 only p (handed (refused n vs) w t) = handed (refused n vs) w (only p t)
 
+-- the walk at which a lookup stops: behind the entry found, behind what is refused, or at the end
+unfoldable pub stopsAt : {D : Type 0} → ℕ → Trace D → Walk
+stopsAt a (over w) = w
+stopsAt a (handed (gives (item b e d)) w t) = pick (holds a b e) w (stopsAt a t)
+stopsAt a (handed (refused n vs) w t) = w
+
 -- every entry but a default location
 abbrev pub isBounded : RawLocListEntry → Bool
 isBounded x = not (isDefault x)

@@ -91,7 +91,7 @@ fn range_from(
 }
 
 // A range found, without the expression that it has in the code.
-fn range_found(r: LocationFound) -> RangeFound
+pub fn range_found(r: LocationFound) -> RangeFound
     ensures { λ q. ⌜ toldRangeFound q ≡ rangeOf (toldLocationFound r) ⌝ }
 {
     match r {
@@ -195,7 +195,7 @@ pub fn lookup_range_by(
 }
 
 // What was found first.
-fn first_found(kept: LocationFound, location: LocationListEntry) -> LocationFound
+pub fn first_found(kept: LocationFound, location: LocationListEntry) -> LocationFound
     ensures { λ r. ⌜ toldLocationFound r ≡ orElse (toldLocationFound kept) (gives (found (item (location .range .begin) (location .range .end) (location .«data»)))) ⌝ }
 {
     match kept {
