@@ -1,0 +1,5 @@
+pub mod Ascending
+pub mod Stack
+pub mod Either
+pub mod Places
+pub mod Together
