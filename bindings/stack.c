@@ -1,5 +1,6 @@
-/* How much stack the calls over coverages and raw entries and those by tables of kind numbers take: each is made on a stack of its own that was filled with one byte,
- * and what was written there is held to what the header says. With -v every figure is printed. */
+/* How much stack the calls over coverages and raw entries, those that look up several addresses and those by tables of kind
+ * numbers take: each is made on a stack of its own that was filled with one byte, and what was written there is held to what the
+ * header says. With -v every figure is printed. */
 #define _XOPEN_SOURCE 700
 #include "yeltzarun.h"
 #include <stdio.h>
@@ -31,6 +32,9 @@ static yz_range range;
 static yz_done done;
 /* DWARF's own numbers. */
 static uint8_t kinds[YZ_KIND_CODES];
+static uint64_t addresses[YZ_MOST_ADDRESSES + 1];
+static size_t addresses_len;
+static yz_found found;
 
 #define RANGES ranges, ranges_len, NULL, 0, 0, unit
 #define LOCATIONS locations, locations_len, NULL, 0, 0, unit, YZ_FILE_MAIN
@@ -53,6 +57,17 @@ static void range_canonical_by(void) { MAKE(got = yz_range_canonical_by(RANGES, 
 static void range_next_by(void) { MAKE(range = yz_range_next_by(entry, sizeof entry, NULL, 0, 0, written, KINDS, &walk)); }
 static void range_next_raw_by(void) { MAKE(raw_range = yz_range_next_raw_by(entry, sizeof entry, written, KINDS, &walk)); }
 static void range_lookup_by(void) { MAKE(range = yz_range_lookup_by(RANGES, 0, 0, KINDS, UINT64_MAX)); }
+#define ADDRESSES addresses, addresses_len, &found
+static void range_lookups(void) { MAKE(got = yz_range_lookups(RANGES, 0, 0, ADDRESSES)); }
+static void location_lookups(void) { MAKE(got = yz_location_lookups(LOCATIONS, 0, 0, ADDRESSES)); }
+static void range_lookups_by(void) { MAKE(got = yz_range_lookups_by(RANGES, 0, 0, KINDS, ADDRESSES)); }
+static void entry_lookups(void) { MAKE(got = yz_range_lookups(entry, sizeof entry, NULL, 0, 0, written, 0, 0, ADDRESSES)); }
+static void entry_lookups_by(void) {
+    MAKE(got = yz_range_lookups_by(entry, sizeof entry, NULL, 0, 0, written, 0, 0, KINDS, ADDRESSES));
+}
+static void split_lookups(void) {
+    MAKE(got = yz_location_lookups(entry, sizeof entry, NULL, 0, 0, written, YZ_FILE_DWO, 0, 0, ADDRESSES));
+}
 static void kinds_load(void) { MAKE(done = yz_kinds_load(KINDS)); }
 static void location_next_raw(void) { MAKE(raw_location = yz_location_next_raw(entry, sizeof entry, written, &walk)); }
 
@@ -111,8 +126,30 @@ static void make_lists(size_t count, int order) {
     locations_len = (size_t)(l - locations);
 }
 
+/* So many addresses: in as many ranges of a list, in none, or in the first. */
+static void make_addresses(size_t count, int where) {
+    size_t i;
+    addresses_len = count;
+    for (i = 0; i < count; i++)
+        addresses[i] = where == 0 ? 0x1000 + 4 * i : where == 1 ? UINT64_MAX : 0x1001;
+}
+
+/* Several addresses in a list of so many ranges. */
+static void lookups(size_t n) {
+    static const size_t counts[] = {0, 1, 2, 32, YZ_MOST_ADDRESSES, YZ_MOST_ADDRESSES + 1};
+    size_t c;
+    int where;
+    for (c = 0; c < sizeof counts / sizeof *counts; c++)
+        for (where = 0; where < 3; where++) {
+            make_addresses(counts[c], where);
+            below("yz_range_lookups", n, range_lookups, YZ_STACK_LOOKUPS);
+            below("yz_range_lookups_by", n, range_lookups_by, YZ_STACK_LOOKUPS);
+            below("yz_location_lookups", n, location_lookups, YZ_STACK_LOOKUPS);
+        }
+}
+
 /* A call on an entry of each kind, split and of both layouts, and of one that is none; its numbers are padded. */
-static void raw_entries(const char *name, void (*call)(void)) {
+static void raw_entries(const char *name, void (*call)(void), long bound) {
     uint8_t kind;
     size_t i;
     for (kind = 0; kind < 10; kind++)
@@ -122,7 +159,7 @@ static void raw_entries(const char *name, void (*call)(void)) {
                 entry[i] = i % 2 == 1 ? 0x81 : 0;
             memset(&walk, 0, sizeof walk);
             walk.split = 1;
-            below(name, 1, call, YZ_STACK_OTHERS);
+            below(name, 1, call, bound);
         }
 }
 
@@ -149,6 +186,7 @@ int main(int argc, char **argv) {
             below("yz_location_runs", n, location_runs, bound);
             below("yz_location_canonical", n, location_canonical, bound);
             below("yz_coverage_from_canonical", n, from_canonical, bound);
+            lookups(n);
         }
     make_lists(YZ_LIMIT, 0);
     range_coverage();
@@ -159,10 +197,14 @@ int main(int argc, char **argv) {
     output_len = got.count;
     below("yz_is_canonical", YZ_LIMIT, is_canonical, YZ_STACK_OTHERS);
     below("yz_kinds_load", 0, kinds_load, YZ_STACK_OTHERS);
-    raw_entries("yz_range_next_raw", range_next_raw);
-    raw_entries("yz_range_next_raw_by", range_next_raw_by);
-    raw_entries("yz_range_next_by", range_next_by);
-    raw_entries("yz_location_next_raw", location_next_raw);
+    raw_entries("yz_range_next_raw", range_next_raw, YZ_STACK_OTHERS);
+    raw_entries("yz_range_next_raw_by", range_next_raw_by, YZ_STACK_OTHERS);
+    raw_entries("yz_range_next_by", range_next_by, YZ_STACK_OTHERS);
+    raw_entries("yz_location_next_raw", location_next_raw, YZ_STACK_OTHERS);
+    make_addresses(YZ_MOST_ADDRESSES, 0);
+    raw_entries("yz_range_lookups", entry_lookups, YZ_STACK_LOOKUPS);
+    raw_entries("yz_range_lookups_by", entry_lookups_by, YZ_STACK_LOOKUPS);
+    raw_entries("yz_location_lookups", split_lookups, YZ_STACK_LOOKUPS);
     printf("stack: %d passed, %d failed\n", passed, failed);
     return failed != 0;
 }

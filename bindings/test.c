@@ -80,6 +80,11 @@ static void same(fields got, const uint64_t *expected, int line, const char *wha
 static void make_old(void *bytes, size_t n) { memset(bytes, OLD, n); }
 static void (*volatile old)(void *, size_t) = make_old;
 
+static bool all_old(const void *bytes, size_t n) {
+    const uint8_t *p = (const uint8_t *)bytes;
+    return n == 0 || (*p == OLD && memcmp(p, p + 1, n - 1) == 0);
+}
+
 /* A call that answers by a type with these fields; all that follow must be 0. Most compilers have the call write its answer
  * where the old one was. */
 #define IS(type, call, ...)                                                                                          \
@@ -106,6 +111,7 @@ static void (*volatile old)(void *, size_t) = make_old;
 #define TOO_FAR REFUSED(YZ_UNSUPPORTED_OFFSET, 0)
 #define TOO_MANY REFUSED(YZ_TOO_MANY_RANGES, 0)
 #define NO_ROOM REFUSED(YZ_NO_SPACE, 0)
+#define NO_CODE(code) REFUSED(YZ_UNKNOWN_RANGE_LISTS_ENTRY, code)
 
 /* A byte string and its length, without the last 0. */
 #define S(bytes) (const uint8_t *)(bytes), sizeof(bytes) - 1
@@ -195,6 +201,7 @@ static void layout(void) {
     FIELD(mark, walk, 8);
     SIZE(marks, 8 * 40);
     SIZE(bounds, 8 * 3000);
+    SIZE(found, 64 * 48);
     SIZE(range_entry, 24);
     FIELD(range_entry, kind, 0);
     FIELD(range_entry, first, 8);
@@ -254,7 +261,7 @@ static void layout(void) {
 static void test_version(void) {
     CHECK(yz_version() == YZ_VERSION);
     CHECK(YZ_LIMIT == 3000 && YZ_SHEET_MAX == 48004 && YZ_CANONICAL_MAX == 57001);
-    CHECK(YZ_MARKS == 8);
+    CHECK(YZ_MARKS == 8 && YZ_MOST_ADDRESSES == 64);
     layout();
     CHECK(strcmp(yz_refusal_name(YZ_NO_REFUSAL), "") == 0);
     CHECK(strcmp(yz_refusal_name((yz_refusal)22), "") == 0);
@@ -730,6 +737,7 @@ typedef struct range_calls {
     yz_range (*next)(LIST_AND_TABLE, yz_walk *);
     yz_raw_range (*next_raw)(SECTION, yz_encoding encoding, yz_walk *);
     yz_range (*lookup)(WHOLE, uint64_t address);
+    yz_count (*lookups)(WHOLE, const uint64_t *, size_t, yz_found *);
     yz_count (*coverage)(WHOLE, yz_bounds *, yz_bounds *);
     yz_count (*runs)(WHOLE, uint64_t *, size_t, uint64_t *, size_t);
     yz_count (*canonical)(WHOLE, uint8_t *, size_t);
@@ -787,6 +795,9 @@ static void make_tables(void) {
     static yz_range lookup_##name(WHOLE, uint64_t address) {                                                         \
         return yz_range_lookup_by(made_of(offset), section_len, LENT, offset, base_address, table, sizeof table, address); \
     }                                                                                                                \
+    static yz_count lookups_##name(WHOLE, const uint64_t *a, size_t a_len, yz_found *f) {                            \
+        return yz_range_lookups_by(made_of(offset), section_len, LENT, offset, base_address, table, sizeof table, a, a_len, f); \
+    }                                                                                                                \
     static yz_count coverage_##name(WHOLE, yz_bounds *b, yz_bounds *e) {                                             \
         return yz_range_coverage_by(made_of(offset), section_len, LENT, offset, base_address, table, sizeof table, b, e); \
     }                                                                                                                \
@@ -798,14 +809,15 @@ static void make_tables(void) {
         return yz_range_canonical_by(made_of(offset), section_len, LENT, offset, base_address, table, sizeof table, o, o_len); \
     }                                                                                                                \
     static const range_calls name = {                                                                                \
-        next_##name, next_raw_##name, lookup_##name, coverage_##name, runs_##name, canonical_##name,                 \
+        next_##name, next_raw_##name, lookup_##name, lookups_##name, coverage_##name, runs_##name, canonical_##name, \
     };
 #define AS_IT_IS(at) section
 #define RECODED(at) recoded(section, section_len, encoding, at)
 CALLS_BY(by_dwarf, AS_IT_IS, dwarf_kinds)
 CALLS_BY(by_supplier, RECODED, supplier_kinds)
 static const range_calls without_table = {
-    yz_range_next, yz_range_next_raw, yz_range_lookup, yz_range_coverage, yz_range_runs, yz_range_canonical,
+    yz_range_next,     yz_range_next_raw, yz_range_lookup,    yz_range_lookups,
+    yz_range_coverage, yz_range_runs,     yz_range_canonical,
 };
 static const range_calls *by = &without_table;
 
@@ -2017,35 +2029,66 @@ static fields by_entries(const fields *answers, const unsigned *which, unsigned 
     return kept;
 }
 
-/* All lists of up to three of these entries, with addresses at the bounds of each. */
-static bool every_order(yz_encoding encoding, yz_file_type file_type) {
+/* A list of so many of these entries, by its number, with which they are and the answer of each. */
+typedef struct order {
+    unsigned n, which[3];
+    fields answers[3];
+} order;
+
+static order put_order(unsigned n, unsigned list, yz_encoding encoding) {
+    order all;
+    unsigned i;
+    memset(&all, 0, sizeof all);
+    all.n = n;
+    made_len = 0;
+    for (i = 0; i < n; i++, list /= ENTRIES) {
+        all.which[i] = list % ENTRIES;
+        all.answers[i] = put_location(all.which[i], encoding);
+    }
+    return all;
+}
+
+/* Addresses at the bounds of each, ascending. */
+#define BOUNDS 9
+typedef struct nine { uint64_t at[BOUNDS]; } nine;
+
+static nine bounds_of(yz_encoding encoding) {
     const uint64_t ones = MAX >> (64 - 8 * encoding.address_size);
-    const uint64_t addresses[] = {0, 0x0f, 0x10, 0x1f, 0x20, ones - 1, ones, MAX - 1, MAX};
-    unsigned n, lists, list, i;
+    const nine all = {{0, 0x0f, 0x10, 0x1f, 0x20, ones - 1, ones, ones < MAX ? MAX - 1 : MAX, MAX}};
+    return all;
+}
+
+/* Whether lookups in a list answer as its entries say. */
+static bool order_is(const order *all, yz_encoding encoding, yz_file_type file_type) {
+    const nine addresses = bounds_of(encoding);
+    unsigned i;
+    for (i = 0; i < BOUNDS; i++) {
+        const fields expected = by_entries(all->answers, all->which, all->n, addresses.at[i]);
+        const fields got =
+            of_location(yz_location_lookup(made, made_len, NO_BYTES, 0, encoding, file_type, 0, 0x100, addresses.at[i]));
+        if (memcmp(&got, &expected, sizeof got) != 0) return false;
+    }
+    return true;
+}
+
+/* All lists of up to three of these entries. */
+typedef bool one_order(const order *all, yz_encoding encoding, yz_file_type file_type);
+
+static bool every_order(one_order *is, yz_encoding encoding, yz_file_type file_type) {
+    unsigned n, lists, list;
     for (n = 0, lists = 1; n <= 3; n++, lists *= ENTRIES)
         for (list = 0; list < lists; list++) {
-            unsigned which[3] = {0, 0, 0}, rest = list;
-            fields answers[3];
-            made_len = 0;
-            for (i = 0; i < n; i++, rest /= ENTRIES) {
-                which[i] = rest % ENTRIES;
-                answers[i] = put_location(which[i], encoding);
-            }
-            for (i = 0; i < sizeof addresses / sizeof *addresses; i++) {
-                const fields expected = by_entries(answers, which, n, addresses[i]);
-                const fields got = of_location(
-                    yz_location_lookup(made, made_len, NO_BYTES, 0, encoding, file_type, 0, 0x100, addresses[i]));
-                if (memcmp(&got, &expected, sizeof got) == 0) continue;
-                printf("test.c: version %u, split %u, size %u, big endian %u, %u entries %u %u %u, address %llx: not so\n",
-                       encoding.version, file_type == YZ_FILE_DWO, encoding.address_size, encoding.big_endian, n, which[0],
-                       which[1], which[2], (unsigned long long)addresses[i]);
-                return false;
-            }
+            const order all = put_order(n, list, encoding);
+            if (is(&all, encoding, file_type)) continue;
+            printf("test.c: version %u, split %u, size %u, big endian %u, %u entries %u %u %u: not so\n", encoding.version,
+                   file_type == YZ_FILE_DWO, encoding.address_size, encoding.big_endian, n, all.which[0], all.which[1],
+                   all.which[2]);
+            return false;
         }
     return true;
 }
 
-static void orders_of_entries(void) {
+static void orders_of_entries(one_order *is) {
     static const uint8_t sizes[] = {1, 2, 3, 4, 8};
     unsigned i, big_endian;
     uint16_t version;
@@ -2053,8 +2096,8 @@ static void orders_of_entries(void) {
         for (big_endian = 0; big_endian < 2; big_endian++)
             for (version = 3; version <= 6; version++) {
                 const yz_encoding encoding = encoded(version, sizes[i], false, big_endian);
-                CHECK(every_order(encoding, DWO));
-                if (version >= 5) CHECK(every_order(encoding, MAIN));
+                CHECK(every_order(is, encoding, DWO));
+                if (version >= 5) CHECK(every_order(is, encoding, MAIN));
             }
 }
 
@@ -2086,7 +2129,640 @@ static void test_location_lookup(void) {
     IS(location, yz_location_lookup(S("\x03\0\x08\0\0\0\x01\0\x50\0"), TABLE_3, 8, little(4, 3), DWO, 0, 0, 0x12), DONE,
        0x10, 0x18, 8, 1);
     default_locations();
-    orders_of_entries();
+    orders_of_entries(order_is);
+}
+
+/* ---- Lookups of several addresses ---- */
+
+/* The places of answers, and one before them and one behind that are no call's. */
+static struct { yz_location before; yz_found found; yz_location behind; } places;
+#define FOUND places.found.at
+
+/* The addresses that are asked for; behind them are 0, which would descend. */
+static uint64_t asked[2 * YZ_MOST_ADDRESSES];
+static size_t asked_len;
+#define ASKED asked, asked_len, &places.found
+#define NO_ADDRESSES NULL, 0, &places.found
+
+/* Whether all places but the first n are as they were. */
+static bool places_old_from(size_t n) {
+    return all_old(&places.before, sizeof places.before) && all_old(&places.behind, sizeof places.behind) &&
+           all_old(FOUND + n, sizeof FOUND - n * sizeof *FOUND);
+}
+
+static void ask_none(void) {
+    old(&places, sizeof places);
+    memset(asked, 0, sizeof asked);
+    asked_len = 0;
+}
+
+/* So many addresses, each a step above the one before. */
+static void ask(size_t n, uint64_t first, uint64_t step) {
+    ask_none();
+    for (; asked_len < n; asked_len++)
+        asked[asked_len] = first + step * asked_len;
+}
+
+/* A row is an address and its answer. */
+#define ROW 8
+typedef uint64_t row[ROW];
+
+static void ask_rows(const row *rows, size_t n) {
+    ask_none();
+    for (; asked_len < n; asked_len++)
+        asked[asked_len] = rows[asked_len][0];
+}
+
+static bool answer_is(size_t i, const uint64_t *expected) {
+    const fields got = of_location(FOUND[i]);
+    return memcmp(got.at, expected, (ROW - 1) * sizeof *expected) == 0;
+}
+
+static void rows_are(const row *rows, size_t n, int line, const char *what) {
+    size_t i;
+    for (i = 0; i < n; i++) {
+        if (!answer_is(i, rows[i] + 1)) printf("test.c:%d: %s: address %u is answered otherwise\n", line, test, (unsigned)i);
+        check(answer_is(i, rows[i] + 1), line, what);
+    }
+    check(places_old_from(n), line, "untouched behind the addresses");
+}
+
+/* A call on the addresses of the rows, which reads so many entries and has these answers. */
+#define GIVES(call, entries, ...)                                                                                    \
+    do {                                                                                                             \
+        const row rows[] = {__VA_ARGS__};                                                                            \
+        const size_t n = sizeof rows / sizeof *rows;                                                                 \
+        ask_rows(rows, n);                                                                                           \
+        IS(count, call, DONE, entries);                                                                              \
+        rows_are(rows, n, __LINE__, #call);                                                                          \
+    } while (0)
+
+/* The same on the addresses that are asked, of which each has this answer. */
+#define GIVES_EACH(call, entries, ...)                                                                               \
+    do {                                                                                                             \
+        const uint64_t each[ROW - 1] = {__VA_ARGS__};                                                                \
+        bool all = true;                                                                                             \
+        size_t place;                                                                                                \
+        old(&places, sizeof places);                                                                                 \
+        IS(count, call, DONE, entries);                                                                              \
+        for (place = 0; place < asked_len; place++)                                                                  \
+            all = all && answer_is(place, each);                                                                     \
+        check(all, __LINE__, "the same answer for each: " #call);                                                    \
+        check(places_old_from(asked_len), __LINE__, "untouched behind the addresses: " #call);                       \
+    } while (0)
+
+/* A call on the addresses that are asked which is refused or answers none. */
+#define LEAVES(call, ...)                                                                                            \
+    do {                                                                                                             \
+        old(&places, sizeof places);                                                                                 \
+        IS(count, call, __VA_ARGS__);                                                                                \
+        check(places_old_from(0), __LINE__, "untouched: " #call);                                                    \
+    } while (0)
+
+#define TOO_MANY_ADDRESSES REFUSED(YZ_TOO_MANY_ADDRESSES, 0)
+#define DESCENDING REFUSED(YZ_DESCENDING_ADDRESSES, 0)
+
+/* A call for the addresses that are asked, and whether it is refused and leaves the places as they were. */
+typedef yz_count ask_call(SECTION, yz_encoding encoding, uint64_t offset);
+
+static bool refuses(ask_call *call, SECTION, yz_encoding encoding, uint64_t offset, yz_refusal refusal) {
+    const fields expected = fields_of(YZ_REFUSED, refusal, 0);
+    fields got;
+    old(&places, sizeof places);
+    got = of_count(call(section, section_len, encoding, offset));
+    return memcmp(&got, &expected, sizeof got) == 0 && places_old_from(0);
+}
+
+/* What is refused before the list is opened, and what opening refuses. The list's first entry holds every address but MAX. */
+static void asking(ask_call *call, SECTION, yz_encoding encoding) {
+#define WHOLE_LIST section, section_len, encoding
+#define UNREAD_LIST section, section_len, unread
+    static const size_t counts[] = {1, 2, 63, 64};
+    const yz_encoding unread = encoded(encoding.version, 5, false, encoding.big_endian);
+    size_t n, i, c;
+    /* None: nothing is opened. */
+    ask_none();
+    LEAVES(call(WHOLE_LIST, 0), DONE, 0);
+    LEAVES(call(WHOLE_LIST, section_len), DONE, 0);
+    LEAVES(call(WHOLE_LIST, section_len + 1), DONE, 0);
+    LEAVES(call(WHOLE_LIST, MAX), DONE, 0);
+    LEAVES(call(NO_BYTES, encoding, 0), DONE, 0);
+    LEAVES(call(NO_BYTES, unread, MAX), DONE, 0);
+    LEAVES(call(UNREAD_LIST, 0), DONE, 0);
+    /* Opening refused, and then a section that is empty from there on, without an end mark. */
+    for (c = 0; c < sizeof counts / sizeof *counts; c++)
+        for (i = 0; i < 3; i++) {
+            ask(counts[c], i < 2 ? 5 : MAX - 126, i);
+            GIVES_EACH(call(WHOLE_LIST, section_len + 1), 0, CUT_SHORT);
+            GIVES_EACH(call(WHOLE_LIST, MAX), 0, CUT_SHORT);
+            GIVES_EACH(call(UNREAD_LIST, 0), 0, BAD_SIZE(5));
+            GIVES_EACH(call(UNREAD_LIST, MAX), 0, BAD_SIZE(5));
+            GIVES_EACH(call(NO_BYTES, unread, 1), 0, BAD_SIZE(5));
+            GIVES_EACH(call(WHOLE_LIST, section_len), 0, NOT_THERE);
+            GIVES_EACH(call(NO_BYTES, encoding, 0), 0, NOT_THERE);
+        }
+    /* Too many, equal, ascending and descending: 20 before 21, and both before opening. */
+    for (n = YZ_MOST_ADDRESSES + 1; n <= 2 * YZ_MOST_ADDRESSES; n++)
+        for (i = 0; i < 3; i++) {
+            ask(n, 1000, i == 0 ? 0 : i == 1 ? 1 : MAX);
+            CHECK(refuses(call, WHOLE_LIST, 0, YZ_TOO_MANY_ADDRESSES));
+            CHECK(refuses(call, UNREAD_LIST, MAX, YZ_TOO_MANY_ADDRESSES));
+        }
+    for (i = 0; i < YZ_MOST_ADDRESSES; i++) {
+        ask(YZ_MOST_ADDRESSES + 1, 5, 0);
+        asked[i] = 6;
+        CHECK(refuses(call, WHOLE_LIST, 0, YZ_TOO_MANY_ADDRESSES));
+    }
+    /* A descending pair at every place, among equals and among others. */
+    for (n = 2; n <= YZ_MOST_ADDRESSES; n++) {
+        bool all = true;
+        for (i = 0; all && i + 1 < n; i++) {
+            ask(n, 5, 0);
+            asked[i] = 6;
+            all = refuses(call, WHOLE_LIST, 0, YZ_DESCENDING_ADDRESSES);
+            ask(n, 5, 0);
+            asked[i + 1] = 4;
+            all = all && refuses(call, UNREAD_LIST, MAX, YZ_DESCENDING_ADDRESSES);
+            ask(n, 10, 2);
+            asked[i + 1] = asked[i] - 1;
+            all = all && refuses(call, WHOLE_LIST, MAX, YZ_DESCENDING_ADDRESSES);
+            ask(n, 10, 2);
+            asked[i] = MAX;
+            all = all && refuses(call, WHOLE_LIST, 0, YZ_DESCENDING_ADDRESSES);
+        }
+        check(all, __LINE__, "a descending pair at every place");
+    }
+    ask(YZ_MOST_ADDRESSES, 1000, MAX);
+    LEAVES(call(WHOLE_LIST, 0), DESCENDING);
+    /* Up to 64 are answered, equal and ascending. */
+    for (n = 1; n <= YZ_MOST_ADDRESSES; n++)
+        for (i = 0; i < 2; i++) {
+            yz_location first;
+            bool all = true;
+            ask(n, 5, i);
+            IS(count, call(WHOLE_LIST, 0), DONE, 1);
+            first = FOUND[0];
+            for (c = 1; c < n; c++)
+                all = all && memcmp(&FOUND[c], &first, sizeof first) == 0;
+            CHECK(all && first.result == YZ_DONE && first.begin == 0 && first.end == MAX && places_old_from(n));
+        }
+#undef UNREAD_LIST
+#undef WHOLE_LIST
+}
+
+/* A number below another, in no order, but the same in every run. */
+static uint64_t below(uint64_t bound) {
+    static uint64_t seed;
+    seed = seed * UINT64_C(6364136223846793005) + UINT64_C(1442695040888963407);
+    return (seed >> 32) % bound;
+}
+
+/* How a list is written, and where it begins among the bytes that are made. */
+typedef struct setting {
+    bool locations;
+    yz_file_type file_type;
+    yz_encoding encoding;
+    uint64_t offset, base_address;
+} setting;
+
+/* An address table of four rows, from 8 on. */
+static uint8_t four_rows[8 + 4 * 8];
+
+/* Most are among few, so that entries meet; some are the largest ones. */
+static uint64_t any_address(yz_encoding encoding) {
+    const uint64_t ones = MAX >> (64 - 8 * encoding.address_size);
+    const uint64_t near = below(0x60);
+    return below(24) == 0 ? ones - near % 3 : near;
+}
+
+/* A length, or a number that is LEB128 in every version: some are padded. */
+static void put_number(uint64_t number, char operand, yz_encoding encoding) {
+    if (is_leb128(operand, encoding.version))
+        put_uleb128(number, below(8) == 0);
+    else
+        put_address(number, encoded(4, operand == 'x' ? 2 : 4, false, encoding.big_endian));
+}
+
+/* An entry of a kind, or for 0 a bare pair. Few indexes have no row. */
+static void put_entry(const setting *in, uint64_t kind) {
+    const char *operand = (in->locations ? location_operands : range_operands)[kind];
+    const bool is_pair = kind == 0 || kind == 4;
+    const uint64_t begin = any_address(in->encoding), length = below(0x18);
+    unsigned n = 0;
+    if (kind != 0) put((uint8_t)kind);
+    for (; *operand != 0; operand++, n++) {
+        uint64_t number = length;
+        if (*operand == 'a' || is_pair)
+            number = n == 0 ? begin : begin + length;
+        else if (kind <= 2 || (kind == 3 && n == 0))
+            number = below(20) == 0 ? 4 + below(3) : below(4);
+        if (*operand == 'x') number = below(3);
+        if (*operand == 'a')
+            put_address(number, in->encoding);
+        else
+            put_number(number, *operand, in->encoding);
+        for (; *operand == 'x' && number > 0; number--)
+            put((uint8_t)below(256));
+    }
+}
+
+/* Bytes, then a list of up to so many entries, then what ends it: a mark with bytes behind, a kind that is none, or the section's
+ * end, also within an entry. */
+static void put_list(setting *in, uint64_t most) {
+    const yz_encoding encoding = in->encoding;
+    const bool kinds = encoding.version >= 5 || (in->locations && in->file_type == YZ_FILE_DWO);
+    uint64_t n = below(most + 1), i;
+    made_len = 0;
+    for (i = 0; i < 4; i++)
+        put_address(any_address(encoding), encoding);
+    memcpy(four_rows + 8, made, made_len);
+    made_len = 0;
+    for (i = below(3); i > 0; i--)
+        put((uint8_t)below(256));
+    in->offset = made_len;
+    in->base_address = any_address(encoding);
+    for (; n > 0; n--) {
+        const size_t at = made_len;
+        if (kinds) {
+            put_entry(in, 1 + below(in->locations ? 8 : 7));
+        } else if (below(8) == 0) {
+            put_address(MAX, encoding);
+            put_address(any_address(encoding), encoding);
+        } else {
+            put_entry(in, 0);
+        }
+        if (n == 1 && below(8) == 0) made_len = at + below(made_len - at);
+    }
+    n = below(4);
+    if (n == 0) {
+        for (i = kinds ? 1 : 2 * encoding.address_size; i > 0; i--)
+            put(0);
+        for (i = below(4); i > 0; i--)
+            put((uint8_t)below(256));
+    } else if (n == 1) {
+        put(below(2) == 0 ? 9 : 0xff);
+    }
+}
+
+#define LENT_TABLE four_rows, (size_t)8 + 4 * in->encoding.address_size, 8, in->encoding
+#define LENT_LIST made, made_len, LENT_TABLE
+
+/* The range of each entry that a walk reads, none where it is no bounded entry's; and the count of entries then. */
+typedef struct step { uint64_t begin, end, entries; } step;
+#define STEPS 600
+static step steps[STEPS];
+static size_t steps_len;
+
+/* The steps up to the first refusal or the end. */
+static void walk_list(const setting *in) {
+    walk_from(in->offset, in->base_address, in->file_type == YZ_FILE_DWO);
+    for (steps_len = 0; steps_len < STEPS; steps_len++) {
+        yz_result result = YZ_END;
+        step one = {0, 0, 0};
+        if (in->locations) {
+            const yz_raw_location raw = yz_location_next_raw(made, made_len, in->encoding, &walk);
+            if (raw.result == YZ_DONE) {
+                const yz_location item = yz_location_convert_raw(LENT_TABLE, raw.entry, &walk);
+                result = item.result;
+                if (raw.entry.kind != YZ_LLE_DEFAULT_LOCATION) {
+                    one.begin = item.begin;
+                    one.end = item.end;
+                }
+            }
+        } else {
+            const yz_raw_range raw = by->next_raw(made, made_len, in->encoding, &walk);
+            if (raw.result == YZ_DONE) {
+                const yz_range item = yz_range_convert_raw(LENT_TABLE, raw.entry, &walk);
+                result = item.result;
+                one.begin = item.begin;
+                one.end = item.end;
+            }
+        }
+        one.entries = walk.entries;
+        steps[steps_len] = one;
+        if (result == YZ_END || result == YZ_REFUSED) {
+            steps_len++;
+            return;
+        }
+    }
+}
+
+/* How many entries the lookup of an address reads. */
+static uint64_t entries_for(uint64_t address) {
+    size_t i;
+    for (i = 0; i < steps_len; i++)
+        if (steps[i].begin <= address && address < steps[i].end) return steps[i].entries;
+    return steps[steps_len - 1].entries;
+}
+
+static fields single(const setting *in, uint64_t address) {
+    if (in->locations)
+        return of_location(yz_location_lookup(LENT_LIST, in->file_type, in->offset, in->base_address, address));
+    return of_range(by->lookup(LENT_LIST, in->offset, in->base_address, address));
+}
+
+/* Addresses at the bounds of entries and others, ascending. */
+static void ask_any(size_t n, yz_encoding encoding) {
+    const uint64_t ones = MAX >> (64 - 8 * encoding.address_size);
+    const uint64_t far[] = {0, ones, ones - 1, MAX, MAX - 1, UINT64_C(1) << 63, ones + 1};
+    const uint64_t width = 1 + below(0x70);
+    ask_none();
+    for (; asked_len < n; asked_len++) {
+        uint64_t address = below(width);
+        size_t i;
+        if (below(3) == 0) {
+            const step near = steps[below(steps_len)];
+            address = below(2) == 0 ? near.begin : near.end;
+            address -= below(2);
+        } else if (below(16) == 0) {
+            address = far[below(sizeof far / sizeof *far)];
+        }
+        for (i = asked_len; i > 0 && asked[i - 1] > address; i--)
+            asked[i] = asked[i - 1];
+        asked[i] = address;
+    }
+}
+
+/* How often addresses were found, not there and refused. */
+static uint64_t met[3];
+
+/* Whether the addresses that are asked have the answers of single lookups, and as many entries are read as by the
+ * longest of these. */
+static bool as_singles(const setting *in) {
+    uint64_t most = 0;
+    yz_count count;
+    fields got, expected = fields_of(YZ_DONE, YZ_NO_REFUSAL, 0);
+    size_t i;
+    if (in->locations)
+        count = yz_location_lookups(LENT_LIST, in->file_type, in->offset, in->base_address, ASKED);
+    else
+        count = by->lookups(LENT_LIST, in->offset, in->base_address, ASKED);
+    for (i = 0; i < asked_len; i++) {
+        const uint64_t entries = entries_for(asked[i]);
+        if (entries > most) most = entries;
+        got = of_location(FOUND[i]);
+        if (i == 0 || asked[i] != asked[i - 1]) expected = single(in, asked[i]);
+        if (memcmp(&got, &expected, sizeof got) != 0) return false;
+        met[expected.at[0] == YZ_DONE ? 0 : expected.at[0] == YZ_NOT_THERE ? 1 : 2]++;
+    }
+    got = of_count(count);
+    expected = fields_of(YZ_DONE, YZ_NO_REFUSAL, 0);
+    expected.at[3] = most;
+    return memcmp(&got, &expected, sizeof got) == 0 && places_old_from(asked_len);
+}
+
+/* Lists of a version, of all sizes and in both orders: short ones, some longer ones, and one of some hundred entries. */
+static void any_lists(bool locations, yz_file_type file_type, uint16_t version) {
+    static const uint8_t sizes[] = {1, 2, 3, 4, 8};
+    unsigned i, big_endian, list, c;
+    for (i = 0; i < sizeof sizes; i++)
+        for (big_endian = 0; big_endian < 2; big_endian++) {
+            setting in = {locations, file_type, encoded(version, sizes[i], false, big_endian), 0, 0};
+            bool all = true;
+            for (list = 0; all && list < 100; list++) {
+                put_list(&in, list == 0 ? 500 : list % 4 == 0 ? 60 : 8);
+                walk_list(&in);
+                for (c = 0; all && c < 4; c++) {
+                    ask_any(c == 0 ? below(4) : c == 1 ? 64 : below(65), in.encoding);
+                    all = as_singles(&in);
+                    if (all) continue;
+                    printf("test.c: version %u, locations %u, split %u, size %u, big endian %u, list %u, %u addresses: not so\n",
+                           version, locations, file_type == YZ_FILE_DWO, sizes[i], big_endian, list, (unsigned)asked_len);
+                }
+            }
+            check(all, __LINE__, "the answers of single lookups, and their entries");
+        }
+}
+
+#define LOOKUPS(list, encoding, offset) by->lookups(list, TABLE, 8, encoding, offset, 0, ASKED)
+#define LOOKUPS_FROM(base_address, list, encoding, offset) by->lookups(list, TABLE, 8, encoding, offset, base_address, ASKED)
+
+static yz_count ask_ranges(SECTION, yz_encoding encoding, uint64_t offset) {
+    return by->lookups(section, section_len, NO_BYTES, 0, encoding, offset, 0, ASKED);
+}
+
+static void test_range_lookups(void) {
+    uint64_t version;
+    /* Two ranges, and a kind that is none. */
+#define LIST S("\x07\x10\0\0\0\x10\x07\x30\0\0\0\x10\x08")
+#define FIRST DONE, 0x10, 0x20
+#define SECOND DONE, 0x30, 0x40
+    ask_none();
+    LEAVES(LOOKUPS(LIST, little(5, 4), 0), DONE, 0);
+    LEAVES(by->lookups(LIST, TABLE, 8, little(5, 4), 0, 0, NO_ADDRESSES), DONE, 0);
+    GIVES(LOOKUPS(LIST, little(5, 4), 0), 1, {0x10, FIRST});
+    GIVES(LOOKUPS(LIST, little(5, 4), 0), 1, {0x10, FIRST}, {0x10, FIRST}, {0x1f, FIRST});
+    GIVES(LOOKUPS(LIST, little(5, 4), 0), 2, {0x10, FIRST}, {0x35, SECOND});
+    GIVES(LOOKUPS(LIST, little(5, 4), 0), 2, {0x10, FIRST}, {0x20, NO_CODE(8)}, {0x35, SECOND});
+    GIVES(LOOKUPS(LIST, little(5, 4), 0), 2, {0x20, NO_CODE(8)});
+    GIVES(LOOKUPS(LIST, little(5, 4), 0), 2, {0, NO_CODE(8)}, {0x0f, NO_CODE(8)}, {0x10, FIRST}, {0x1f, FIRST},
+          {0x20, NO_CODE(8)}, {0x2f, NO_CODE(8)}, {0x30, SECOND}, {0x3f, SECOND}, {0x40, NO_CODE(8)},
+          {MAX - 1, NO_CODE(8)}, {MAX, NO_CODE(8)}, {MAX, NO_CODE(8)});
+    GIVES(LOOKUPS(LIST, little(5, 4), 6), 1, {0x30, SECOND}, {0x3f, SECOND});
+    GIVES(LOOKUPS(LIST, little(5, 4), 6), 1, {0x10, NO_CODE(8)}, {0x30, SECOND});
+    GIVES(LOOKUPS(LIST, little(5, 4), 12), 0, {0x10, NO_CODE(8)}, {0x30, NO_CODE(8)});
+    GIVES(LOOKUPS(LIST, little(5, 4), 13), 0, {0x10, NOT_THERE}, {0x30, NOT_THERE});
+    GIVES(LOOKUPS(LIST, little(5, 4), 14), 0, {0x10, CUT_SHORT}, {0x30, CUT_SHORT});
+    GIVES(LOOKUPS(LIST, little(5, 9), 14), 0, {0x10, BAD_SIZE(9)}, {0x30, BAD_SIZE(9)});
+    ask(2, 0x35, MAX - 0x24);
+    CHECK(asked[0] == 0x35 && asked[1] == 0x10);
+    LEAVES(LOOKUPS(LIST, little(5, 4), 0), DESCENDING);
+    ask(64, 1, 0);
+    GIVES_EACH(LOOKUPS(LIST, little(5, 4), 0), 2, NO_CODE(8));
+    ask(65, 1, 0);
+    LEAVES(LOOKUPS(LIST, little(5, 4), 0), TOO_MANY_ADDRESSES);
+    ask(65, 65, MAX);
+    LEAVES(LOOKUPS(LIST, little(5, 4), 0), TOO_MANY_ADDRESSES);
+#undef FIRST
+#undef SECOND
+#undef LIST
+    /* What ends a list, and whether it counts. */
+    GIVES(LOOKUPS(S("\x07\x10\0\0\0\x10\x07\x30\0\0\0\x10"), little(5, 4), 0), 2, {0x50, NOT_THERE});
+    GIVES(LOOKUPS(S("\x07\x10\0\0\0\x10\x07\x30\0\0\0\x10\0\xff"), little(5, 4), 0), 3, {0x50, NOT_THERE});
+    GIVES(LOOKUPS(S("\0"), little(5, 4), 0), 1, {5, NOT_THERE});
+    GIVES(LOOKUPS(S("\0"), little(5, 4), 1), 0, {5, NOT_THERE});
+    GIVES(LOOKUPS(S("\0"), little(5, 4), 2), 0, {1, CUT_SHORT}, {2, CUT_SHORT});
+    GIVES(LOOKUPS(S("\0"), little(5, 5), 0), 0, {1, BAD_SIZE(5)});
+    ask_none();
+    LEAVES(LOOKUPS(S("\0"), little(5, 5), 0), DONE, 0);
+    GIVES(LOOKUPS(S("\x07\x10\0\0\0\x10\x07\x30\0"), little(5, 4), 0), 1, {0x10, DONE, 0x10, 0x20}, {0x30, CUT_SHORT});
+    GIVES(LOOKUPS(S("\x07\x10\0\0\0\x10\x01" NINE "\x02"), little(5, 4), 0), 1, {0x10, DONE, 0x10, 0x20},
+          {0x30, REFUSED(YZ_BAD_UNSIGNED_LEB128, 0)});
+    /* The first of several ranges that hold an address, as in a single lookup. */
+#define LIST S("\x07\x14\0\0\0\x04\x07\x10\0\0\0\x10\x07\0\0\0\0\x40\x08")
+    GIVES(LOOKUPS(LIST, little(5, 4), 0), 3, {0, DONE, 0, 0x40}, {0x10, DONE, 0x10, 0x20}, {0x13, DONE, 0x10, 0x20},
+          {0x14, DONE, 0x14, 0x18}, {0x17, DONE, 0x14, 0x18}, {0x18, DONE, 0x10, 0x20}, {0x20, DONE, 0, 0x40});
+    GIVES(LOOKUPS(LIST, little(5, 4), 0), 2, {0x13, DONE, 0x10, 0x20}, {0x14, DONE, 0x14, 0x18}, {0x18, DONE, 0x10, 0x20});
+    GIVES(LOOKUPS(LIST, little(5, 4), 0), 1, {0x14, DONE, 0x14, 0x18}, {0x17, DONE, 0x14, 0x18});
+#undef LIST
+    /* The address table: a failed lookup is the answer of those that wait, and its entry is read. */
+#define LIST S("\x03\0\x08\x02\0\x02\x03\x01\x08\0")
+    GIVES(LOOKUPS(LIST, little(5, 4), 0), 2, {0x0f, CUT_SHORT}, {0x10, DONE, 0x10, 0x18}, {0x17, DONE, 0x10, 0x18},
+          {0x20, CUT_SHORT});
+    GIVES(LOOKUPS(LIST, little(5, 4), 0), 1, {0x10, DONE, 0x10, 0x18}, {0x17, DONE, 0x10, 0x18});
+    GIVES(LOOKUPS(LIST, little(5, 4), 6), 1, {0x20, DONE, 0x20, 0x28});
+    GIVES(LOOKUPS(LIST, little(5, 4), 6), 2, {0x10, NOT_THERE}, {0x20, DONE, 0x20, 0x28});
+#undef LIST
+    GIVES(LOOKUPS(S("\x03" INDEX_2_61 "\x08\0"), little(5, 8), 0), 1, {1, TOO_FAR}, {2, TOO_FAR});
+    GIVES(by->lookups(S("\x03\x01\x08\0"), BIG_TABLE, 8, big(5, 4), 0, 0, ASKED), 2, {0x1f, NOT_THERE}, {0x27, DONE, 0x20, 0x28});
+    GIVES(by->lookups(S("\x03\x01\x08\0"), TABLE_3, 8, little(5, 3), 0, 0, ASKED), 1, {0x27, DONE, 0x20, 0x28});
+    GIVES(by->lookups(S("\x03\x01\x08\0"), TABLE, MAX, little(5, 4), 0, 0, ASKED), 1, {0, CUT_SHORT}, {0x27, CUT_SHORT});
+    /* Base addresses, and entries without a range. */
+#define LIST S("\x04\x01\x02\x05\0\x10\0\0\x04\x03\x03\x04\x01\x02\0")
+    GIVES(LOOKUPS_FROM(0x40, LIST, little(5, 4), 0), 4, {0x41, DONE, 0x41, 0x42}, {0x1001, DONE, 0x1001, 0x1002});
+    GIVES(LOOKUPS_FROM(0x40, LIST, little(5, 4), 0), 5, {0x42, NOT_THERE}, {0x1003, NOT_THERE});
+    GIVES(LOOKUPS_FROM(0xfffffffe, LIST, little(5, 4), 0), 5, {0x1001, DONE, 0x1001, 0x1002}, {0xffffffff, NOT_THERE});
+#undef LIST
+    /* Bare pairs, which have no codes. */
+#define LIST S("\x01\0\x03\0\xff\xff\0\x20\x03\0\x03\0\x01\0\x03\0\0\0\0\0\x01")
+    GIVES(LOOKUPS_FROM(0x40, LIST, little(4, 2), 0), 4, {0x41, DONE, 0x41, 0x43}, {0x42, DONE, 0x41, 0x43},
+          {0x2001, DONE, 0x2001, 0x2003});
+    GIVES(LOOKUPS_FROM(0x40, LIST, little(3, 2), 0), 5, {0x40, NOT_THERE}, {0x42, DONE, 0x41, 0x43}, {0x2003, NOT_THERE});
+    GIVES(LOOKUPS_FROM(0x40, LIST, little(4, 2), 20), 0, {0x41, CUT_SHORT}, {0x2001, CUT_SHORT});
+    GIVES(LOOKUPS_FROM(0x40, S("\x01\x03\0\0"), big(4, 1), 0), 1, {0x41, DONE, 0x41, 0x43}, {0x42, DONE, 0x41, 0x43});
+#undef LIST
+    /* The whole range of addresses but the last. */
+#define LIST S("\x07\0\0\0\0\0\0\0\0\xff\xff\xff\xff\xff\xff\xff\xff\xff\x01\0")
+    GIVES(LOOKUPS(LIST, little(5, 8), 0), 1, {0, DONE, 0, MAX}, {MAX - 1, DONE, 0, MAX});
+    GIVES(LOOKUPS(LIST, little(5, 8), 0), 2, {0, DONE, 0, MAX}, {MAX, NOT_THERE}, {MAX, NOT_THERE});
+    for (version = 5; version <= 6; version++) {
+        asking(ask_ranges, LIST, little((uint16_t)version, 8));
+        asking(ask_ranges, LIST, big((uint16_t)version, 8));
+    }
+#undef LIST
+    asking(ask_ranges, S("\0\0\0\0\0\0\0\0\xff\xff\xff\xff\xff\xff\xff\xff"), little(4, 8));
+    memset(met, 0, sizeof met);
+    for (version = 3; version <= 6; version++)
+        any_lists(false, MAIN, (uint16_t)version);
+    CHECK(met[0] > 100000 && met[1] > 100000 && met[2] > 100000);
+}
+
+#define LLOOKUPS(list, encoding, file_type, offset)                                                                  \
+    yz_location_lookups(list, TABLE, 8, encoding, file_type, offset, 0x100, ASKED)
+
+static yz_count ask_locations(SECTION, yz_encoding encoding, uint64_t offset) {
+    return yz_location_lookups(section, section_len, NO_BYTES, 0, encoding, MAIN, offset, 0, ASKED);
+}
+
+static yz_count ask_split(SECTION, yz_encoding encoding, uint64_t offset) {
+    return yz_location_lookups(section, section_len, NO_BYTES, 0, encoding, DWO, offset, 0, ASKED);
+}
+
+/* Whether any two of the addresses, each alone and all of them are answered in a list as its entries say. */
+static bool order_is_for_several(const order *all, yz_encoding encoding, yz_file_type file_type) {
+    const nine addresses = bounds_of(encoding);
+    fields expected[BOUNDS];
+    uint64_t read[BOUNDS];
+    unsigned i, j, n;
+    for (i = 0; i < BOUNDS; i++) {
+        const uint64_t address = addresses.at[i];
+        expected[i] = by_entries(all->answers, all->which, all->n, address);
+        for (n = 0; n < all->n; n++) {
+            const fields one = all->answers[n];
+            if (all->which[n] == ENTRY_NO_KIND) break;
+            if (one.at[0] == YZ_END || one.at[0] == YZ_REFUSED ||
+                (one.at[0] == YZ_DONE && all->which[n] != ENTRY_DEFAULT && one.at[3] <= address && address < one.at[4])) {
+                n++;
+                break;
+            }
+        }
+        read[i] = n;
+    }
+    for (i = 0; i < BOUNDS; i++)
+        for (j = i; j <= BOUNDS; j++) {
+            /* The i-th and the j-th, and at last from the i-th on all. */
+            uint64_t most = 0;
+            yz_count count;
+            unsigned which[BOUNDS];
+            ask_none();
+            for (n = i; n < BOUNDS; n++)
+                if (j == BOUNDS || n == i || n == j) which[asked_len++] = n;
+            if (i == j) which[asked_len++] = i;
+            for (n = 0; n < asked_len; n++) {
+                asked[n] = addresses.at[which[n]];
+                if (read[which[n]] > most) most = read[which[n]];
+            }
+            count = yz_location_lookups(made, made_len, NO_BYTES, 0, encoding, file_type, 0, 0x100, ASKED);
+            if (count.result != YZ_DONE || count.refusal != YZ_NO_REFUSAL || count.refusal_value != 0 || count.count != most)
+                return false;
+            for (n = 0; n < asked_len; n++)
+                if (!answer_is(n, expected[which[n]].at)) return false;
+            if (!places_old_from(asked_len)) return false;
+        }
+    return true;
+}
+
+static void test_location_lookups(void) {
+    uint16_t version;
+    /* A default location, and another behind it. */
+#define LIST S("\x05\x01\x50\x07\x10\0\0\0\x20\0\0\0\x01\x51\0")
+#define BOUNDED DONE, 0x10, 0x20, 13, 1
+    GIVES(LLOOKUPS(LIST, little(5, 4), MAIN, 0), 3, {0, BY_DEFAULT(2, 1)}, {0x10, BOUNDED}, {0x20, BY_DEFAULT(2, 1)},
+          {MAX, NOT_THERE});
+    GIVES(LLOOKUPS(LIST, little(5, 4), DWO, 0), 3, {0x0f, BY_DEFAULT(2, 1)}, {0x1f, BOUNDED}, {MAX - 1, BY_DEFAULT(2, 1)});
+    GIVES(LLOOKUPS(LIST, little(5, 4), MAIN, 0), 2, {0x10, BOUNDED}, {0x10, BOUNDED}, {0x1f, BOUNDED});
+    GIVES(LLOOKUPS(LIST, little(5, 4), MAIN, 3), 2, {0, NOT_THERE}, {0x10, BOUNDED});
+    GIVES(LLOOKUPS(LIST, little(5, 4), MAIN, 3), 1, {0x10, BOUNDED});
+    GIVES(LLOOKUPS(LIST, little(5, 4), MAIN, 14), 1, {0, NOT_THERE}, {0x10, NOT_THERE});
+    GIVES(LLOOKUPS(LIST, little(5, 4), MAIN, 15), 0, {0, NOT_THERE}, {0x10, NOT_THERE});
+    GIVES(LLOOKUPS(LIST, little(5, 4), MAIN, 16), 0, {0, CUT_SHORT}, {0x10, CUT_SHORT});
+    GIVES(LLOOKUPS(LIST, little(5, 6), MAIN, 16), 0, {0, BAD_SIZE(6)}, {0x10, BAD_SIZE(6)});
+    ask_none();
+    LEAVES(LLOOKUPS(LIST, little(5, 4), MAIN, 0), DONE, 0);
+    LEAVES(yz_location_lookups(LIST, TABLE, 8, little(5, 4), MAIN, 0, 0, NO_ADDRESSES), DONE, 0);
+    LEAVES(yz_location_lookups(NO_BYTES, NO_BYTES, 0, little(5, 5), DWO, MAX, 0, NO_ADDRESSES), DONE, 0);
+#undef LIST
+    /* A kind that is none in place of the end mark. */
+#define LIST S("\x05\x01\x50\x07\x10\0\0\0\x20\0\0\0\x01\x51\x09")
+    GIVES(LLOOKUPS(LIST, little(5, 4), MAIN, 0), 2, {0, NO_KIND_9}, {0x10, BOUNDED});
+    GIVES(LLOOKUPS(LIST, little(5, 4), MAIN, 0), 2, {0x10, BOUNDED});
+    GIVES(LLOOKUPS(LIST, little(5, 4), MAIN, 0), 2, {0, NO_KIND_9}, {0x1f, BOUNDED}, {MAX, NO_KIND_9});
+#undef LIST
+    /* The section's end. */
+#define LIST S("\x05\x01\x50\x07\x10\0\0\0\x20\0\0\0\x01\x51")
+    GIVES(LLOOKUPS(LIST, little(5, 4), MAIN, 0), 2, {0, BY_DEFAULT(2, 1)}, {0x10, BOUNDED}, {MAX, NOT_THERE});
+#undef BOUNDED
+#undef LIST
+    GIVES(LLOOKUPS(S("\x05\x01\x50\x05\x01\x52\0\xff"), little(5, 4), MAIN, 0), 3, {5, BY_DEFAULT(2, 1)}, {5, BY_DEFAULT(2, 1)},
+          {MAX, NOT_THERE});
+    GIVES(LLOOKUPS(S("\x05\x01\x50\x02\0\x02\x01\x51\0"), little(5, 4), MAIN, 0), 2, {5, CUT_SHORT}, {MAX, CUT_SHORT});
+    GIVES(LLOOKUPS(S("\x09\x04\x01\x02\0\0"), little(5, 4), MAIN, 1), 1, {0x101, DONE, 0x101, 0x102, 5, 0});
+    GIVES(LLOOKUPS(S("\0"), little(5, 5), MAIN, 0), 0, {1, BAD_SIZE(5)});
+    GIVES(LLOOKUPS(S("\0"), little(5, 4), MAIN, 2), 0, {1, CUT_SHORT}, {2, CUT_SHORT});
+    GIVES(LLOOKUPS(S("\0"), little(5, 4), MAIN, 0), 1, {5, NOT_THERE});
+    /* The first of several that hold an address has its own expression. */
+#define LIST S("\x08\x14\0\0\0\x04\x01\x50\x08\x10\0\0\0\x10\x01\x51\x09")
+    GIVES(LLOOKUPS(LIST, little(5, 4), MAIN, 0), 2, {0x13, DONE, 0x10, 0x20, 15, 1}, {0x14, DONE, 0x14, 0x18, 7, 1},
+          {0x17, DONE, 0x14, 0x18, 7, 1}, {0x18, DONE, 0x10, 0x20, 15, 1}, {0x20, NO_KIND_9});
+#undef LIST
+    /* Split lists before version 5, and bare pairs. */
+#define LIST S("\x05\x01\0\x50\x03\0\x08\0\0\0\x01\0\x51\0")
+    GIVES(LLOOKUPS(LIST, little(4, 4), DWO, 0), 3, {0x0f, BY_DEFAULT(3, 1)}, {0x10, DONE, 0x10, 0x18, 12, 1}, {MAX, NOT_THERE});
+    GIVES(LLOOKUPS(LIST, little(3, 4), DWO, 0), 2, {0x10, DONE, 0x10, 0x18, 12, 1}, {0x17, DONE, 0x10, 0x18, 12, 1});
+    GIVES(LLOOKUPS(LIST, little(4, 4), MAIN, 0), 1, {0x0f, CUT_SHORT}, {0x10, CUT_SHORT});
+#undef LIST
+#define LIST S("\x05\0\x08\0\x01\0\x50\xff\xff\0\x20\x05\0\x08\0\0\0\0\0\0\0")
+    GIVES(LLOOKUPS(LIST, little(4, 2), MAIN, 0), 3, {0x107, DONE, 0x105, 0x108, 6, 1}, {0x2005, DONE, 0x2005, 0x2008, 17, 0});
+    GIVES(LLOOKUPS(LIST, little(4, 2), MAIN, 0), 4, {0x104, NOT_THERE}, {0x107, DONE, 0x105, 0x108, 6, 1}, {0x2008, NOT_THERE});
+    GIVES(LLOOKUPS(LIST, little(4, 2), DWO, 0), 0, {0x107, CUT_SHORT});
+#undef LIST
+#define LIST S("\x07\0\0\0\0\0\0\0\0\xff\xff\xff\xff\xff\xff\xff\xff\x01\x50\0")
+    asking(ask_locations, LIST, little(5, 8));
+    asking(ask_locations, LIST, big(6, 8));
+    asking(ask_split, LIST, little(5, 8));
+#undef LIST
+#define LIST S("\x07\0\0\0\0\0\0\0\0\xff\xff\xff\xff\xff\xff\xff\xff\0\0\0")
+    asking(ask_split, LIST, little(4, 8));
+    asking(ask_split, LIST, big(3, 8));
+#undef LIST
+    asking(ask_locations, S("\0\0\0\0\0\0\0\0\xff\xff\xff\xff\xff\xff\xff\xff\0\0"), little(4, 8));
+    orders_of_entries(order_is_for_several);
+    memset(met, 0, sizeof met);
+    for (version = 3; version <= 6; version++) {
+        any_lists(true, MAIN, version);
+        any_lists(true, DWO, version);
+    }
+    CHECK(met[0] > 200000 && met[1] > 200000 && met[2] > 200000);
 }
 
 /* ---- Marks ---- */
@@ -2515,14 +3191,6 @@ static void test_mark_return(void) {
 /* ---- Coverage ---- */
 
 static yz_bounds begins, ends;
-
-static bool all_old(const void *bytes, size_t n) {
-    const uint8_t *p = (const uint8_t *)bytes;
-    while (n > 0)
-        if (p[--n] != OLD)
-            return false;
-    return true;
-}
 
 static bool zero_from(const yz_bounds *bounds, size_t n) {
     for (; n < YZ_LIMIT; n++)
@@ -3140,7 +3808,6 @@ static void kinds_from_10(void) {
     kinds[0x17] = 7;
 }
 
-#define NO_CODE(code) REFUSED(YZ_UNKNOWN_RANGE_LISTS_ENTRY, code)
 #define LOADS(...) IS(done, yz_kinds_load(__VA_ARGS__), DONE)
 #define NO_TABLE(...) IS(done, yz_kinds_load(__VA_ARGS__), REFUSED(YZ_BAD_KIND_TABLE, 0))
 
@@ -3487,6 +4154,50 @@ static void test_range_lookup_by(void) {
     bare_pairs(bare_lookup);
 }
 
+#define LOOKUPS_BY(list, encoding, offset, table)                                                                    \
+    yz_range_lookups_by(list, TABLE, 8, encoding, offset, 0x40, table, ASKED)
+
+static void bare_lookups(const uint8_t *table, size_t table_len) {
+    GIVES(LOOKUPS_BY(BARE, little(4, 2), 0, ANY_TABLE), 3, {0x41, DONE, 0x41, 0x42}, {0x2006, DONE, 0x2004, 0x2007});
+    GIVES(LOOKUPS_BY(BARE, little(3, 2), 0, ANY_TABLE), 4, {0x41, DONE, 0x41, 0x42}, {0x42, NOT_THERE});
+}
+
+static void test_range_lookups_by(void) {
+    by_tables(test_range_lookups);
+    kinds_from_10();
+#define LIST S("\x17\x10\0\0\0\x08\x14\x01\x05\x99\x10")
+#define FIRST DONE, 0x10, 0x18
+#define SECOND DONE, 0x41, 0x45
+    GIVES(LOOKUPS_BY(LIST, little(5, 4), 0, KINDS), 2, {0x12, FIRST}, {0x18, NO_CODE(0x99)}, {0x44, SECOND});
+    GIVES(LOOKUPS_BY(LIST, little(5, 4), 0, KINDS), 2, {0x12, FIRST}, {0x12, FIRST}, {0x44, SECOND}, {0x44, SECOND});
+    GIVES(LOOKUPS_BY(LIST, little(5, 4), 0, KINDS), 1, {0x12, FIRST});
+    GIVES(LOOKUPS_BY(LIST, little(5, 4), 10, KINDS), 1, {0x12, NOT_THERE}, {0x44, NOT_THERE});
+    GIVES(LOOKUPS_BY(LIST, little(5, 4), 11, KINDS), 0, {0x12, NOT_THERE}, {0x44, NOT_THERE});
+    GIVES(LOOKUPS_BY(LIST, little(5, 4), 12, KINDS), 0, {0x12, CUT_SHORT}, {0x44, CUT_SHORT});
+    GIVES(LOOKUPS_BY(LIST, little(5, 7), 12, KINDS), 0, {0x12, BAD_SIZE(7)}, {0x44, BAD_SIZE(7)});
+    GIVES(LOOKUPS_BY(LIST, little(5, 4), 0, NO_BYTES), 0, {0x12, NO_CODE(0x17)}, {0x44, NO_CODE(0x17)});
+    GIVES(LOOKUPS_BY(LIST, little(5, 4), 0, S("\0\x01\x02\x03\x04\x05\x06\x07")), 0, {0x12, NO_CODE(0x17)});
+    /* A code for the end in place of the second entry's. */
+    kinds[0x14] = 0;
+    GIVES(LOOKUPS_BY(LIST, little(5, 4), 0, KINDS), 2, {0x12, FIRST}, {0x44, NOT_THERE});
+    kinds_from_10();
+    ask_none();
+    LEAVES(LOOKUPS_BY(LIST, little(5, 7), MAX, NO_BYTES), DONE, 0);
+    LEAVES(yz_range_lookups_by(NO_BYTES, NO_BYTES, 0, little(5, 4), 1, 0, NO_BYTES, NO_ADDRESSES), DONE, 0);
+    ask(2, 0x44, MAX);
+    LEAVES(LOOKUPS_BY(LIST, little(5, 4), 0, KINDS), DESCENDING);
+    LEAVES(LOOKUPS_BY(LIST, little(5, 7), MAX, NO_BYTES), DESCENDING);
+    ask(65, 0x44, MAX);
+    LEAVES(LOOKUPS_BY(LIST, little(5, 7), MAX, NO_BYTES), TOO_MANY_ADDRESSES);
+    ask(64, 0x10, 0);
+    GIVES_EACH(LOOKUPS_BY(LIST, little(5, 4), 0, KINDS), 1, FIRST);
+#undef FIRST
+#undef SECOND
+#undef LIST
+    GIVES(LOOKUPS_BY(S("\x07\x10\0\0\0\x08\0"), little(5, 4), 0, KINDS), 0, {0x12, NO_CODE(7)});
+    bare_pairs(bare_lookups);
+}
+
 /* The ranges that touch, and a list with code 99, both by the codes from 10 on. */
 #define TOUCHING_FROM_10 S("\x17\x20\0\0\0\x10\x17\x10\0\0\0\x10\x10")
 #define ENDS_IN_99 S("\x17\x20\0\0\0\x10\x99\x10")
@@ -3605,12 +4316,14 @@ static const struct { const char *name; void (*run)(void); } tests[] = {
     {"yz_range_next_raw", test_range_next_raw},
     {"yz_range_convert_raw", test_range_convert_raw},
     {"yz_range_lookup", test_range_lookup},
+    {"yz_range_lookups", test_range_lookups},
     {"yz_location_open", test_location_open},
     {"yz_location_next", test_location_next},
     {"yz_location_next_raw", test_location_next_raw},
     {"yz_location_convert_raw", test_location_convert_raw},
     {"yz_expression", test_expression},
     {"yz_location_lookup", test_location_lookup},
+    {"yz_location_lookups", test_location_lookups},
     {"yz_mark_set", test_mark_set},
     {"yz_mark_return", test_mark_return},
     {"yz_range_coverage", test_range_coverage},
@@ -3628,6 +4341,7 @@ static const struct { const char *name; void (*run)(void); } tests[] = {
     {"yz_range_next_by", test_range_next_by},
     {"yz_range_next_raw_by", test_range_next_raw_by},
     {"yz_range_lookup_by", test_range_lookup_by},
+    {"yz_range_lookups_by", test_range_lookups_by},
     {"yz_range_coverage_by", test_range_coverage_by},
     {"yz_range_runs_by", test_range_runs_by},
     {"yz_range_canonical_by", test_range_canonical_by},

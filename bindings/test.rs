@@ -61,12 +61,14 @@ const TESTS: &[Test] = &[
     ("yz_range_next_raw", range_next_raw),
     ("yz_range_convert_raw", range_convert_raw),
     ("yz_range_lookup", range_lookup),
+    ("yz_range_lookups", range_lookups),
     ("yz_location_open", location_open),
     ("yz_location_next", location_next),
     ("yz_location_next_raw", location_next_raw),
     ("yz_location_convert_raw", location_convert_raw),
     ("yz_expression", expression),
     ("yz_location_lookup", location_lookup),
+    ("yz_location_lookups", location_lookups),
     ("yz_mark_set", mark_set),
     ("yz_mark_return", mark_return),
     ("yz_range_coverage", range_coverage),
@@ -84,6 +86,7 @@ const TESTS: &[Test] = &[
     ("yz_range_next_by", range_next_by),
     ("yz_range_next_raw_by", range_next_raw_by),
     ("yz_range_lookup_by", range_lookup_by),
+    ("yz_range_lookups_by", range_lookups_by),
     ("yz_range_coverage_by", range_coverage_by),
     ("yz_range_runs_by", range_runs_by),
     ("yz_range_canonical_by", range_canonical_by),
@@ -162,9 +165,9 @@ fn join(parts: &[&[u8]]) -> Vec<u8> {
 
 fn versions(c: &mut Checks) {
     c.same(version(), VERSION);
-    c.same(VERSION, 9);
+    c.same(VERSION, 10);
     c.same((LIMIT, SHEET_MAX, CANONICAL_MAX), (3000, 48_004, 57_001));
-    c.same(MARKS, 8);
+    c.same((MARKS, MOST_ADDRESSES), (8, 64));
 }
 
 fn errors(c: &mut Checks) {
@@ -182,6 +185,8 @@ fn errors(c: &mut Checks) {
     c.same(Error::from_number(22, 9).to_string(), "22 Unknown 0x9".to_string());
     c.same((NO_MARK.to_string(), NO_MARK.value()), ("13 NoSuchMark".to_string(), None));
     c.same((NO_TABLE.to_string(), NO_TABLE.value()), ("19 BadKindTable".to_string(), None));
+    c.same(Error::TooManyAddresses.to_string(), "20 TooManyAddresses".to_string());
+    c.same(Error::DescendingAddresses.to_string(), "21 DescendingAddresses".to_string());
     let mixed = Error::MixedByteOrders;
     c.same((mixed.number(), mixed.value(), mixed.name()), (0, None, "MixedByteOrders"));
 }
@@ -2022,6 +2027,466 @@ fn orders_of_entries(c: &mut Checks) {
     }
 }
 
+// Lookups of several addresses
+
+/// The answers of several addresses, and how many entries were read.
+fn several<T: Clone>(found: &[Result<Option<T>>], entries: u64) -> Result<Lookups<T>> {
+    Ok(Lookups { found: found.to_vec(), entries })
+}
+
+/// What is refused before a list is opened, and what opening refuses. A call is given an address size, an
+/// offset and the addresses. The list is one of size 8 whose first entry holds every address but 2^64 - 1.
+fn asking<T: Copy + PartialEq + Debug>(
+    c: &mut Checks,
+    len: u64,
+    call: impl Fn(u8, u64, &[u64]) -> Result<Lookups<T>>,
+) {
+    let rows = |n: u64| -> [Vec<u64>; 3] {
+        [vec![5; n as usize], (5..5 + n).collect(), (u64::MAX - n + 1..=u64::MAX).collect()]
+    };
+    let (read, past) = ([(8, 0), (8, len)], [(8, len + 1), (8, u64::MAX), (5, 0), (5, u64::MAX)]);
+    for (size, offset) in read.into_iter().chain(past) {
+        let ask = |addresses: &[u64]| call(size, offset, addresses);
+        // Without addresses nothing is opened.
+        c.same(ask(&[]), several(&[], 0));
+        for addresses in [1, 2, 63, 64].into_iter().flat_map(rows) {
+            let each = match (size, offset) {
+                (5, _) => Err(Error::UnsupportedAddressSize(5)),
+                (_, offset) if offset > len => Err(EOF),
+                (_, offset) if offset == len => Ok(None),
+                _ => continue,
+            };
+            c.same(ask(&addresses), several(&vec![each; addresses.len()], 0));
+        }
+        // 20 before 21, and both before opening.
+        for mut addresses in [65, 66, 130].into_iter().flat_map(rows) {
+            c.same(ask(&addresses), Err(Error::TooManyAddresses));
+            addresses[0] = u64::MAX;
+            c.same(ask(&addresses), Err(Error::TooManyAddresses));
+            addresses.reverse();
+            c.same(ask(&addresses), Err(Error::TooManyAddresses));
+        }
+        for n in 2..=64 {
+            let mut wrong = Vec::new();
+            for (i, addresses) in (1..n).flat_map(|i| rows(n as u64).map(|row| (i, row))) {
+                let (mut above, mut below) = (addresses.clone(), addresses);
+                (above[i - 1], below[i]) = (above[i].saturating_add(1), below[i - 1] - 1);
+                for row in [above, below] {
+                    if !row.is_sorted() && ask(&row) != Err(Error::DescendingAddresses) {
+                        wrong.push(row);
+                    }
+                }
+            }
+            c.same((size, offset, n, wrong), (size, offset, n, vec![]));
+        }
+    }
+    // Up to 64 are answered.
+    let first = call(8, 0, &[5]).expect("an answer").found[0];
+    c.same(matches!(first, Ok(Some(_))), true);
+    for n in 1..=64 {
+        let [equal, ascending, last] = rows(n);
+        c.same(call(8, 0, &equal), several(&vec![first; n as usize], 1));
+        c.same(call(8, 0, &ascending), several(&vec![first; n as usize], 1));
+        let mut found = vec![first; n as usize];
+        found[n as usize - 1] = Ok(None);
+        c.same(call(8, 0, &last).map(|several| several.found), Ok(found));
+    }
+}
+
+fn range_lookups(c: &mut Checks) {
+    let look = |bytes: &[u8], (version, size), offset, addresses: &[u64]| {
+        let (lists, table) = (range_lists(bytes, Little), table_of(size));
+        let (offset, encoding) = (RangeListsOffset(offset), encoding(version, size));
+        lists.lookups(offset, encoding, 0x40, &table, DebugAddrBase(8), addresses)
+    };
+    let is = |begin, end| Ok(Some(at(begin, end)));
+    let (not_there, no_kind_8, five) = (Ok(None), Err(Error::UnknownRangeListsEntry(8)), (5, 4));
+    let list = [7, 0x10, 0, 0, 0, 0x10, 7, 0x30, 0, 0, 0, 0x10, 8];
+    let (first, second) = (is(0x10, 0x20), is(0x30, 0x40));
+    c.same(look(&list, five, 0, &[]), several(&[], 0));
+    c.same(look(&list, five, 0, &[0x10]), several(&[first], 1));
+    c.same(look(&list, five, 0, &[0x10, 0x10, 0x1f]), several(&[first; 3], 1));
+    c.same(look(&list, five, 0, &[0x10, 0x35]), several(&[first, second], 2));
+    c.same(look(&list, five, 0, &[0x10, 0x20, 0x35]), several(&[first, no_kind_8, second], 2));
+    c.same(look(&list, five, 0, &[0x20]), several(&[no_kind_8], 2));
+    c.same(look(&list, five, 6, &[0x10, 0x35]), several(&[no_kind_8, second], 1));
+    c.same(look(&list, five, 0, &[0x35, 0x10]), Err(Error::DescendingAddresses));
+    c.same(look(&list, five, 0, &[1; 64]), several(&[no_kind_8; 64], 2));
+    c.same(look(&list, five, 0, &[1; 65]), Err(Error::TooManyAddresses));
+    let descending: Vec<u64> = (0..65).rev().collect();
+    c.same(look(&list, five, 0, &descending), Err(Error::TooManyAddresses));
+    // What ends a list, and whether it counts.
+    c.same(look(&list[..12], five, 0, &[0x50]), several(&[not_there], 2));
+    c.same(look(&join(&[&list[..12], &[0, 8]]), five, 0, &[0x50]), several(&[not_there], 3));
+    c.same(look(&[0], five, 0, &[5]), several(&[not_there], 1));
+    c.same(look(&[0], five, 1, &[5]), several(&[not_there], 0));
+    c.same(look(&[0], five, 2, &[1, 2]), several(&[Err(EOF); 2], 0));
+    c.same(look(&[0], (5, 5), 0, &[1]), several(&[Err(Error::UnsupportedAddressSize(5))], 0));
+    c.same(look(&[0], (5, 5), 0, &[]), several(&[], 0));
+    c.same(look(&[], five, 0, &[0, u64::MAX]), several(&[not_there; 2], 0));
+    c.same(look(&list[..8], five, 0, &[0x10, 0x30]), several(&[first, Err(EOF)], 1));
+    // The first of several ranges that hold an address.
+    let nested =
+        [7, 0x14, 0, 0, 0, 4, 7, 0x10, 0, 0, 0, 0x10, 7, 0, 0, 0, 0, 0x40, 7, 0, 0, 0, 0, 0x50, 8];
+    let (inner, around, all) = (is(0x14, 0x18), is(0x10, 0x20), is(0, 0x40));
+    c.same(
+        look(&nested, five, 0, &[0, 0x10, 0x13, 0x14, 0x17, 0x18, 0x20]),
+        several(&[all, around, around, inner, inner, around, all], 3),
+    );
+    c.same(look(&nested, five, 0, &[0x13, 0x14, 0x18]), several(&[around, inner, around], 2));
+    // A failed lookup in the address table, whose entry is read; base addresses.
+    let failed = [3, 0, 8, 2, 0, 2, 3, 1, 8, 0];
+    let by_table = [Err(EOF), is(0x10, 0x18), Err(EOF)];
+    c.same(look(&failed, five, 0, &[0xf, 0x10, 0x20]), several(&by_table, 2));
+    c.same(look(&failed, (5, 3), 6, &[0x10, 0x27]), several(&[not_there, is(0x20, 0x28)], 2));
+    let (pair, based) = (is(0x41, 0x42), is(0x1001, 0x1002));
+    let bases = [4, 1, 2, 5, 0, 0x10, 0, 0, 4, 3, 3, 4, 1, 2, 0];
+    c.same(look(&bases, five, 0, &[0x41, 0x1001]), several(&[pair, based], 4));
+    c.same(look(&bases, five, 0, &[0x41, 0x1002]), several(&[pair, not_there], 5));
+    // Bare pairs.
+    let bare = [1, 0, 3, 0, 0xff, 0xff, 0, 0x20, 1, 0, 3, 0, 0, 0, 0, 0, 1];
+    let (pair, based) = (is(0x41, 0x43), is(0x2001, 0x2003));
+    for four in [(3, 2), (4, 2)] {
+        c.same(look(&bare, four, 0, &[0x41, 0x42, 0x2001]), several(&[pair, pair, based], 3));
+        c.same(look(&bare, four, 0, &[0x42, 0x43]), several(&[pair, not_there], 4));
+        c.same(look(&bare, four, 16, &[0x42, 0x43]), several(&[Err(EOF); 2], 0));
+    }
+    let whole = join(&[&[7], &[0; 8], &[0xff; 9], &[1, 0]]);
+    for version in [5, 6] {
+        let call = |size, offset, row: &[u64]| look(&whole, (version, size), offset, row);
+        asking(c, whole.len() as u64, call);
+    }
+    let bare = join(&[&[0; 8], &[0xff; 8]]);
+    let (lists, none) = (range_lists(&bare, Big), DebugAddr::default());
+    asking(c, 16, |size, offset, row| {
+        let (offset, base) = (RangeListsOffset(offset), DebugAddrBase(0));
+        lists.lookups(offset, encoding(4, size), 0, &none, base, row)
+    });
+    any_lists(c, |any| {
+        let (list, at) = any.list(&RANGE_OPERANDS, any.encoding.version >= 5);
+        let table = any.table();
+        any.compare_ranges(range_lists(&list, any.endian), &table, at);
+    });
+}
+
+fn location_lookups(c: &mut Checks) {
+    use DwarfFileType::{Dwo, Main};
+    let look = look_up_several;
+    let (five, default) = ((5, 4, Little, Main), by_default(2));
+    let list = [5, 1, 0x50, 7, 0x10, 0, 0, 0, 0x20, 0, 0, 0, 1, 0x51, 0];
+    let (bounded, four) = (own(0x10, 0x20, 13), [0, 0x10, 0x20, u64::MAX]);
+    for setting in [five, (6, 4, Little, Dwo)] {
+        let found = [default, bounded, default, NOT_THERE];
+        c.same(look(&list, setting, 0, &four), several(&found, 3));
+        c.same(look(&list[..14], setting, 0, &four), several(&found, 2));
+        c.same(look(&list, setting, 0, &[0x10, 0x10, 0x1f]), several(&[bounded; 3], 2));
+        c.same(look(&list, setting, 3, &four[..2]), several(&[NOT_THERE, bounded], 2));
+        c.same(look(&list, setting, 14, &four), several(&[NOT_THERE; 4], 1));
+        c.same(look(&list, setting, 16, &four), several(&[Err(EOF); 4], 0));
+        c.same(look(&list, setting, 16, &[]), several(&[], 0));
+        let refused = join(&[&list[..14], &[9]]);
+        c.same(look(&refused, setting, 0, &four[..2]), several(&[NO_KIND_9, bounded], 2));
+        c.same(look(&refused, setting, 0, &[0x10]), several(&[bounded], 2));
+    }
+    let twice = [5, 1, 0x50, 5, 1, 0x52, 0, 9];
+    c.same(look(&twice, five, 0, &[5, 5, u64::MAX]), several(&[default, default, NOT_THERE], 3));
+    let no_row = [5, 1, 0x50, 2, 0, 2, 1, 0x51, 0];
+    c.same(look(&no_row, five, 0, &[5, u64::MAX]), several(&[Err(EOF); 2], 2));
+    let nested = [8, 0x14, 0, 0, 0, 4, 1, 0x50, 8, 0x10, 0, 0, 0, 0x10, 1, 0x51, 9];
+    let (inner, around) = (own(0x14, 0x18, 7), own(0x10, 0x20, 15));
+    c.same(
+        look(&nested, five, 0, &[0x13, 0x14, 0x17, 0x18, 0x20]),
+        several(&[around, inner, inner, around, NO_KIND_9], 2),
+    );
+    // Split lists before version 5, and bare pairs.
+    let gnu = [5, 1, 0, 0x50, 3, 0, 8, 0, 0, 0, 1, 0, 0x51, 0];
+    let found = [by_default(3), own(0x10, 0x18, 12), NOT_THERE];
+    c.same(look(&gnu, (4, 4, Little, Dwo), 0, &[0xf, 0x10, u64::MAX]), several(&found, 3));
+    c.same(look(&gnu, (3, 4, Little, Dwo), 0, &[0x10, 0x17]), several(&[found[1]; 2], 2));
+    let bare = [5, 0, 8, 0, 1, 0, 0x50, 0, 0, 0, 0];
+    let found = [own(0x105, 0x108, 6), NOT_THERE];
+    c.same(look(&bare, (4, 2, Little, Main), 0, &[0x107, 0x108]), several(&found, 2));
+    c.same(look(&bare, (4, 2, Little, Dwo), 0, &[0x107, 0x108]), several(&[Err(EOF); 2], 0));
+
+    let (bounds, x) = (join(&[&[0; 8], &[0xff; 8]]), [1, 0, 0x50]);
+    let newer = join(&[&[7], &bounds, &x[..1], &x[2..], &[0]]);
+    let (older, gnu) = (join(&[&bounds, &x]), join(&[&[7], &bounds, &x, &[0]]));
+    let all =
+        [(&newer, 5, Main), (&newer, 5, Dwo), (&newer, 6, Main), (&older, 4, Main), (&gnu, 4, Dwo)];
+    for (list, version, file_type) in all {
+        let (lists, none) = (location_lists(list, Little), DebugAddr::default());
+        asking(c, list.len() as u64, |size, offset, row| {
+            let (offset, base) = (LocationListsOffset(offset), DebugAddrBase(0));
+            lists.lookups(offset, encoding(version, size), file_type, 0, &none, base, row)
+        });
+    }
+    orders_for_several(c);
+    any_lists(c, |any| {
+        for file in [Main, Dwo] {
+            let kinds = any.encoding.version >= 5 || file == Dwo;
+            let ((list, at), table) = (any.list(&LOCATION_OPERANDS, kinds), any.table());
+            any.compare_locations(&list, &table, file, at);
+        }
+    });
+}
+
+/// The same as [`look_up`] for several addresses.
+fn look_up_several(
+    list: &[u8],
+    setting: Setting,
+    offset: u64,
+    addresses: &[u64],
+) -> Result<Lookups<(Range, usize)>> {
+    let (version, size, endian, file_type) = setting;
+    let table = DebugAddr::new(if endian == Big { BIG_TABLE } else { TABLE }, endian);
+    let (lists, offset) = (location_lists(list, endian), LocationListsOffset(offset));
+    let (encoding, base) = (encoding(version, size), DebugAddrBase(8));
+    let Lookups { found, entries } =
+        lists.lookups(offset, encoding, file_type, 0x100, &table, base, addresses)?;
+    let told = |l: LocationListEntry| {
+        let x = l.data.offset();
+        assert_eq!(l.data.bytes(), &list[x..=x]);
+        (l.range, x)
+    };
+    Ok(Lookups { found: found.into_iter().map(|f| Ok(f?.map(told))).collect(), entries })
+}
+
+/// All lists of up to three entries, with addresses at the bounds of each, all at once and each two.
+fn orders_for_several(c: &mut Checks) {
+    let sizes = [1, 2, 3, 4, 8].into_iter().flat_map(|size| [(size, Little), (size, Big)]);
+    let files = [(3, DwarfFileType::Dwo), (5, DwarfFileType::Main)];
+    for ((size, endian), (version, file)) in sizes.flat_map(|s| files.map(|file| (s, file))) {
+        let setting = (version, size, endian, file);
+        let (choices, ones) = (entries_of(setting), u64::MAX >> (64 - 8 * size));
+        let mut addresses = [0, 0xf, 0x10, 0x1f, 0x20, ones - 1, ones, u64::MAX - 1, u64::MAX];
+        addresses.sort();
+        let pairs = (0..9).flat_map(|i| (i..9).map(move |j| vec![addresses[i], addresses[j]]));
+        let rows: Vec<Vec<u64>> = pairs.chain([addresses.to_vec()]).collect();
+        let mut wrong = Vec::new();
+        for (n, number) in (0..=3).flat_map(|n| (0..7usize.pow(n)).map(move |list| (n, list))) {
+            let (mut list, mut comes) = (Vec::new(), Vec::new());
+            for digit in 0..n {
+                let (entry, to) = &choices[number / 7usize.pow(digit) % 7];
+                list.extend(entry);
+                comes.push((*to, list.len() - 1));
+            }
+            for row in &rows {
+                let found: Vec<_> = row.iter().map(|a| by_entries(&comes, *a)).collect();
+                let entries = row.iter().map(|a| read_by_entries(&comes, *a)).max();
+                let got = look_up_several(&list, setting, 0, row);
+                if got != several(&found, entries.unwrap_or(0)) {
+                    wrong.push((list.clone(), row.clone(), got));
+                }
+            }
+        }
+        c.same((setting, wrong), (setting, vec![]));
+    }
+}
+
+/// How many entries a lookup reads by what the entries come to. A refusal by the table is of an entry that
+/// is read.
+fn read_by_entries(entries: &[(Comes, usize)], address: u64) -> u64 {
+    let ends = entries.iter().position(|(comes, _)| match *comes {
+        Comes::ToEnd | Comes::ToRefusal(_) => true,
+        Comes::ToBounded(range) => (range.begin..range.end).contains(&address),
+        Comes::ToDefault | Comes::ToNothing => false,
+    });
+    match ends.map(|i| (i, entries[i].0)) {
+        None => entries.len() as u64,
+        Some((i, Comes::ToRefusal(Error::UnknownLocListsEntry(_)))) => i as u64,
+        Some((i, _)) => i as u64 + 1,
+    }
+}
+
+/// The range of each entry that a walk reads, none where it is no bounded entry's, and the count then; up
+/// to the first refusal or the end.
+type Reading = Vec<(Option<Range>, u64)>;
+
+/// The reading of a walk whose next entry comes to a range or to none.
+fn reading(mut next: impl FnMut() -> (Result<Option<Option<Range>>>, u64)) -> Reading {
+    let mut all = Vec::new();
+    loop {
+        let (comes, entries) = next();
+        all.push((comes.ok().flatten().flatten(), entries));
+        if !matches!(comes, Ok(Some(_))) {
+            return all;
+        }
+    }
+}
+
+/// How many entries the lookup of an address reads.
+fn entries_for(reading: &Reading, address: u64) -> u64 {
+    let holds = |range: Range| (range.begin..range.end).contains(&address);
+    let found = reading.iter().find(|(range, _)| range.is_some_and(holds));
+    found.or(reading.last()).map_or(0, |(_, entries)| *entries)
+}
+
+/// An address or a length in a number of bytes.
+fn fixed(number: u64, width: usize, endian: RunTimeEndian) -> Vec<u8> {
+    match endian {
+        Big => number.to_be_bytes()[8 - width..].to_vec(),
+        Little => number.to_le_bytes()[..width].to_vec(),
+    }
+}
+
+/// Lists that are put together in no order; how often an address was found, not there and refused, and
+/// which answers were wrong.
+struct AnyLists<'a> {
+    byte: &'a mut dyn FnMut() -> u8,
+    encoding: Encoding,
+    endian: RunTimeEndian,
+    met: [usize; 3],
+    wrong: Vec<String>,
+}
+
+impl AnyLists<'_> {
+    /// A number below another.
+    fn below(&mut self, bound: u8) -> u64 {
+        ((self.byte)() % bound).into()
+    }
+
+    /// An address table of twenty rows.
+    fn table(&mut self) -> Vec<u8> {
+        let (size, endian) = (self.encoding.address_size.into(), self.endian);
+        (0..20).flat_map(|_| fixed(self.below(0x60), size, endian)).collect()
+    }
+
+    /// Bytes, a list that begins at their end, and what ends it: a mark with bytes behind, a kind that is
+    /// none, or the section's end.
+    fn list(&mut self, operands: &[&str], kinds: bool) -> (Vec<u8>, usize) {
+        let (size, endian) = (usize::from(self.encoding.address_size), self.endian);
+        let mut list: Vec<u8> = (0..self.below(3)).map(|n| n as u8).collect();
+        let (begin, most) = (list.len(), if self.below(8) == 0 { 100 } else { 9 });
+        for _ in 0..self.below(most) {
+            let kind = if kinds { 1 + self.below(operands.len() as u8 - 1) as usize } else { 0 };
+            let base = !kinds && self.below(8) == 0;
+            list.extend(kinds.then_some(kind as u8));
+            for (n, operand) in operands[kind].chars().enumerate() {
+                let number = self.below(if n == 0 { 24 } else { 48 });
+                let is_leb128 = is_leb128(operand, self.encoding.version);
+                list.extend(match operand {
+                    'a' if base && n == 0 => vec![0xff; size],
+                    'a' => fixed(number, size, endian),
+                    'x' if base => vec![],
+                    'x' if is_leb128 => join(&[&[2], &[7; 2]]),
+                    'x' => join(&[&fixed(2, 2, endian), &[7; 2]]),
+                    _ if is_leb128 => leb128(number, usize::from(self.below(8) == 0)),
+                    _ => fixed(number, 4, endian),
+                });
+            }
+        }
+        match self.below(4) {
+            0 => list.extend(join(&[&vec![0; if kinds { 1 } else { 2 * size }], &[0xff, 7]])),
+            1 => list.push(9),
+            _ => {}
+        }
+        (list, begin)
+    }
+
+    /// Addresses at the bounds of entries and others, ascending.
+    fn addresses(&mut self, reading: &Reading, n: usize) -> Vec<u64> {
+        let ones = u64::MAX >> (64 - 8 * self.encoding.address_size);
+        let (far, width) = ([0, ones - 1, ones, u64::MAX - 1, u64::MAX], 1 + (self.byte)() % 0x70);
+        let mut all: Vec<u64> = Vec::new();
+        for _ in 0..n {
+            let (choice, which, less) = (self.below(8), (self.byte)().into(), self.below(2));
+            let near = reading.iter().cycle().nth(which).and_then(|(range, _)| *range);
+            all.push(match (choice, near) {
+                (0, Some(range)) => range.begin.wrapping_sub(less),
+                (1, Some(range)) => range.end - less,
+                (2, _) if which % 4 == 0 => far[which / 4 % far.len()],
+                _ => self.below(width),
+            });
+        }
+        all.sort();
+        all
+    }
+
+    /// Several addresses have the answers of single lookups, and as many entries are read as by the
+    /// longest of these.
+    fn compare<T: Clone + PartialEq + Debug>(
+        &mut self,
+        list: &[u8],
+        reading: Reading,
+        lookups: impl Fn(&[u64]) -> Result<Lookups<T>>,
+        lookup: impl Fn(u64) -> Result<Option<T>>,
+    ) {
+        for n in [1, 2, self.below(65) as usize, 64] {
+            let addresses = self.addresses(&reading, n);
+            let found: Vec<_> = addresses.iter().map(|address| lookup(*address)).collect();
+            for one in &found {
+                let which = one.as_ref().map_or(2, |found| usize::from(found.is_none()));
+                self.met[which] += 1;
+            }
+            let entries = addresses.iter().map(|address| entries_for(&reading, *address)).max();
+            let got = lookups(&addresses);
+            if got != several(&found, entries.unwrap_or(0)) {
+                self.wrong.push(words(&(list, addresses, got)));
+            }
+        }
+    }
+
+    /// The same in a range list.
+    fn compare_ranges<K: Kinds>(&mut self, lists: RangeLists<'_, K>, table: &[u8], at: usize) {
+        let (encoding, base, from) = (self.encoding, DebugAddrBase(0), self.below(0x30));
+        let (table, offset) = (DebugAddr::new(table, self.endian), RangeListsOffset(at as u64));
+        let mut walk = lists.ranges(offset, encoding, from, &table, base).expect("an open list");
+        let reading = reading(|| {
+            let (raw, entries) = (walk.next_raw(), walk.entries());
+            (raw.and_then(|raw| raw.map(|raw| walk.convert_raw(raw)).transpose()), entries)
+        });
+        let list = lists.debug_rnglists().reader().slice();
+        self.compare(
+            list,
+            reading,
+            |addresses| lists.lookups(offset, encoding, from, &table, base, addresses),
+            |address| lists.lookup(offset, encoding, from, &table, base, address),
+        );
+    }
+
+    /// The same in a location list.
+    fn compare_locations(&mut self, list: &[u8], table: &[u8], file: DwarfFileType, at: usize) {
+        let (encoding, base, from) = (self.encoding, DebugAddrBase(0), self.below(0x30));
+        let (table, offset) = (DebugAddr::new(table, self.endian), LocationListsOffset(at as u64));
+        let lists = location_lists(list, self.endian);
+        let walk = match file {
+            DwarfFileType::Main => lists.locations(offset, encoding, from, &table, base),
+            DwarfFileType::Dwo => lists.locations_dwo(offset, encoding, from, &table, base),
+        };
+        let mut walk = walk.expect("an open list");
+        let reading = reading(|| {
+            let (raw, entries) = (walk.next_raw(), walk.entries());
+            let bounded = !matches!(raw, Ok(Some(RawLocListEntry::DefaultLocation { .. })));
+            let comes = raw.and_then(|raw| raw.map(|raw| walk.convert_raw(raw)).transpose());
+            let range = |l: Option<LocationListEntry>| l.filter(|_| bounded).map(|l| l.range);
+            (comes.map(|comes| comes.map(range)), entries)
+        });
+        self.compare(
+            list,
+            reading,
+            |addresses| lists.lookups(offset, encoding, file, from, &table, base, addresses),
+            |address| lists.lookup(offset, encoding, file, from, &table, base, address),
+        );
+    }
+}
+
+/// Lists of every version, of all sizes and in both orders, compared by a call. Each answer is met often.
+fn any_lists(c: &mut Checks, compare: impl Fn(&mut AnyLists)) {
+    let (mut byte, mut met) = (byte_source(), [0; 3]);
+    let settings = (3..=6).flat_map(|version| [1, 2, 3, 4, 8].map(|size| (version, size)));
+    for ((version, size), endian) in settings.flat_map(|s| [Little, Big].map(|endian| (s, endian)))
+    {
+        let encoding = encoding(version, size);
+        let mut lists = AnyLists { byte: &mut byte, encoding, endian, met, wrong: Vec::new() };
+        for _ in 0..100 {
+            compare(&mut lists);
+        }
+        met = lists.met;
+        c.same((version, size, endian, lists.wrong), (version, size, endian, vec![]));
+    }
+    c.same(met.map(|met| met > 50_000), [true; 3]);
+}
+
 // Marks
 
 const NO_MARK: Error = Error::NoSuchMark;
@@ -2979,6 +3444,43 @@ fn range_lookup_by(c: &mut Checks) {
     c.same(lookup(&[7, 0x10, 0, 0, 0, 8, 0], 4, 0, 0x12), Err(NO_CODE_7));
 }
 
+fn range_lookups_by(c: &mut Checks) {
+    let kinds = kinds_from_10();
+    let look = |bytes: &[u8], size, offset, addresses: &[u64]| {
+        let (lists, table) = (range_lists(bytes, Little).with_kinds(&kinds), table_of(4));
+        let (offset, encoding) = (RangeListsOffset(offset), encoding(5, size));
+        lists.lookups(offset, encoding, 0x40, &table, DebugAddrBase(8), addresses)
+    };
+    let list = [0x17, 0x10, 0, 0, 0, 8, 0x14, 1, 5, 0x99, 0x10];
+    let (first, second) = (Ok(Some(at(0x10, 0x18))), Ok(Some(at(0x41, 0x45))));
+    let three = [first, Err(NO_CODE_99), second];
+    c.same(look(&list, 4, 0, &[0x12, 0x18, 0x44]), several(&three, 2));
+    c.same(
+        look(&list, 4, 0, &[0x12, 0x12, 0x44, 0x44]),
+        several(&[first, first, second, second], 2),
+    );
+    c.same(look(&list, 4, 0, &[0x12]), several(&[first], 1));
+    c.same(look(&list, 4, 0, &[0x10; 64]), several(&[first; 64], 1));
+    c.same(look(&list, 4, 10, &[0x12, 0x44]), several(&[Ok(None); 2], 1));
+    c.same(look(&list, 4, 11, &[0x12, 0x44]), several(&[Ok(None); 2], 0));
+    c.same(look(&list, 4, 12, &[0x12, 0x44]), several(&[Err(EOF); 2], 0));
+    c.same(look(&list, 4, 12, &[]), several(&[], 0));
+    c.same(look(&[7, 0x10, 0, 0, 0, 8, 0], 4, 0, &[0x12]), several(&[Err(NO_CODE_7)], 0));
+    c.same(look(&list, 7, 12, &[0x44, 0x12]), Err(Error::DescendingAddresses));
+    c.same(look(&list, 7, 12, &[0x12; 65]), Err(Error::TooManyAddresses));
+    let whole = join(&[&[0x17], &[0; 8], &[0xff; 9], &[1, 0x10]]);
+    let len = whole.len() as u64;
+    asking(c, len, |size, offset, addresses| look(&whole, size, offset, addresses));
+    let (dwarf, supplier) = (KindTable::DWARF, supplier_kinds());
+    any_lists(c, |any| {
+        let (list, at) = any.list(&RANGE_OPERANDS, any.encoding.version >= 5);
+        let table = any.table();
+        any.compare_ranges(range_lists(&list, any.endian).with_kinds(&dwarf), &table, at);
+        let recoded = recoded(&list[at..], any.encoding).expect("9 is no code");
+        any.compare_ranges(range_lists(&recoded, any.endian).with_kinds(&supplier), &table, 0);
+    });
+}
+
 fn range_coverage_by(c: &mut Checks) {
     let kinds = kinds_from_10();
     let cover = |bytes: &[u8], size, offset| {
@@ -3054,9 +3556,11 @@ fn answers<K: Kinds>(lists: RangeLists<'_, K>, encoding: Encoding) -> Vec<String
             lists.canonical(at_0, encoding, 0x10, &table, base, o).map(|list| list.bytes().len())
         })),
     ];
-    for address in [0, 3, 0x10, 0x11, 0x20, 0xff] {
+    let addresses = [0, 3, 0x10, 0x11, 0x20, 0xff];
+    for address in addresses {
         all.push(words(&lists.lookup(at_0, encoding, 0x10, &table, base, address)));
     }
+    all.push(words(&lists.lookups(at_0, encoding, 0x10, &table, base, &addresses)));
     all
 }
 
@@ -3194,6 +3698,7 @@ fn byte_orders(c: &mut Checks) {
         let table = DebugAddr::new(TABLE, other);
         c.same(ranges.ranges(at_0, five, 0, &table, base).map(|_| ()), Err(mixed));
         c.same(ranges.lookup(at_0, five, 0, &table, base, 0), Err(mixed));
+        c.same(ranges.lookups(at_0, five, 0, &table, base, &[0]), Err(mixed));
         c.same(ranges.coverage(at_0, five, 0, &table, base), Err(mixed));
         c.same(put(1, 1, |b, e| ranges.runs(at_0, five, 0, &table, base, b, e)), left(1, 1, mixed));
         c.same(ranges.canonical(at_0, five, 0, &table, base, &mut output), Err(mixed));
@@ -3201,12 +3706,14 @@ fn byte_orders(c: &mut Checks) {
         let by = ranges.with_kinds(&kinds);
         c.same(by.ranges(at_0, five, 0, &table, base).map(|_| ()), Err(mixed));
         c.same(by.lookup(at_0, five, 0, &table, base, 0), Err(mixed));
+        c.same(by.lookups(at_0, five, 0, &table, base, &[0]), Err(mixed));
         c.same(by.coverage(at_0, five, 0, &table, base), Err(mixed));
         c.same(put(1, 1, |b, e| by.runs(at_0, five, 0, &table, base, b, e)), left(1, 1, mixed));
         c.same(by.canonical(at_0, five, 0, &table, base, &mut output), Err(mixed));
         c.same(locations.locations(l_at_0, five, 0, &table, base).map(|_| ()), Err(mixed));
         c.same(locations.locations_dwo(l_at_0, five, 0, &table, base).map(|_| ()), Err(mixed));
         c.same(locations.lookup(l_at_0, five, main, 0, &table, base, 0), Err(mixed));
+        c.same(locations.lookups(l_at_0, five, main, 0, &table, base, &[0]), Err(mixed));
         c.same(locations.coverage(l_at_0, five, main, 0, &table, base), Err(mixed));
         c.same(
             put(1, 1, |b, e| locations.runs(l_at_0, five, main, 0, &table, base, b, e)),
@@ -3217,6 +3724,8 @@ fn byte_orders(c: &mut Checks) {
         // Before every refusal of the library.
         let nowhere = RangeListsOffset(u64::MAX);
         c.same(ranges.lookup(nowhere, encoding(5, 5), 0, &table, base, 0), Err(mixed));
+        c.same(ranges.lookups(nowhere, encoding(5, 5), 0, &table, base, &[]), Err(mixed));
+        c.same(ranges.lookups(at_0, five, 0, &table, base, &[0; 65]), Err(mixed));
         let found = Ok(Some(at(0x10, 0x18)));
         c.same(ranges.lookup(at_0, five, 0, &DebugAddr::new(own, endian), base, 0x10), found);
         let empty = DebugAddr::new(&[], other);

@@ -2,11 +2,11 @@
  *
  * Every call ends, reads no byte outside the bytes that it is lent, and answers every input; nothing has to be checked
  * before it. The caller sees to it that a pointer and its length name readable bytes, or numbers where the pointer is to these
- * (the pointer may be NULL where the length is 0), that a pointer to a walk, marks, a place, a part or bounds is not NULL, that
- * what a call writes to can be written and shares no byte with anything else that it is lent, and that no other thread writes
- * what is lent. The library is for x86-64. How much stack a call takes, YZ_STACK and the two behind it say. Its functions have
- * no unwind tables: they throw nothing and call nothing of the caller, but a backtrace taken inside one, as by a signal, stops
- * there.
+ * (the pointer may be NULL where the length is 0), that a pointer to a walk, marks, a place, a part, bounds or the places of
+ * answers is not NULL, that what a call writes to can be written and shares no byte with anything else that it is lent, and that
+ * no other thread writes what is lent. The library is for x86-64. How much stack a call takes, YZ_STACK and the three behind it
+ * say. Its functions have no unwind tables: they throw nothing and call nothing of the caller, but a backtrace taken inside one,
+ * as by a signal, stops there.
  *
  * An answer is a struct. It begins with `result`; with YZ_REFUSED, `refusal` is the refusal's number and `refusal_value` its
  * value, 0 where it has none. Fields that the result does not name are 0. What a call may be refused with stands at the call.
@@ -57,7 +57,7 @@ extern "C" {
 #endif
 
 /* The version of this interface; it changes with every change of a struct, a number, a call or what a call answers. */
-#define YZ_VERSION 9
+#define YZ_VERSION 10
 
 /* The version of the library that is linked; the header is for it where this is YZ_VERSION. */
 uint32_t yz_version(void);
@@ -71,7 +71,7 @@ typedef enum yz_result {
     YZ_REFUSED = 4    /* refusal and refusal_value say why */
 } yz_result;
 
-/* The refusals by number; refusal_value where there is one. No call gives 14 to 18, 20 or 21 yet. */
+/* The refusals by number; refusal_value where there is one. No call gives 14 to 18 yet. */
 typedef enum yz_refusal {
     YZ_NO_REFUSAL = 0,                /* with every result but YZ_REFUSED */
     YZ_UNEXPECTED_EOF = 1,            /* bytes are missing */
@@ -93,8 +93,8 @@ typedef enum yz_refusal {
     YZ_BACKWARD_RANGE = 17,           /* a range's begin is above its end */
     YZ_ADDRESS_TOO_LARGE = 18,        /* a range is too large for the address size of an older list */
     YZ_BAD_KIND_TABLE = 19,           /* no table of kind numbers that can be loaded */
-    YZ_TOO_MANY_ADDRESSES = 20,       /* more than 64 addresses */
-    YZ_DESCENDING_ADDRESSES = 21      /* an address is above the one after it */
+    YZ_TOO_MANY_ADDRESSES = 20,       /* more than 64 addresses in one call of .._lookups or .._lookups_by */
+    YZ_DESCENDING_ADDRESSES = 21      /* an address in such a call is above the one after it */
 } yz_refusal;
 
 /* The name of a refusal; "" for YZ_NO_REFUSAL and for a number that is none. */
@@ -181,9 +181,11 @@ typedef char yz_check_sizes[sizeof(yz_result) == 4 && sizeof(size_t) == 8 ? 1 : 
 #define YZ_CANONICAL_MAX (19 * YZ_LIMIT + 1)
 
 /* Bytes of stack that are more than a call takes, beside what memset and memcpy of the C library do: one that reads a list for its
- * coverage, runs or canonical list, and yz_coverage_from_canonical; the same where the list yields at most 32 ranges; any other. */
+ * coverage, runs or canonical list, and yz_coverage_from_canonical; the same where the list yields at most 32 ranges; one that
+ * looks up several addresses; any other. */
 #define YZ_STACK (48 * YZ_LIMIT + 11000)
 #define YZ_STACK_SHORT 6000
+#define YZ_STACK_LOOKUPS 1600
 #define YZ_STACK_OTHERS 400
 
 /* The begins or the ends of a coverage's ranges. */
@@ -206,6 +208,9 @@ typedef struct yz_walk {
 /* How many bytes a table of kind numbers has, and the byte of a code that has no kind. */
 #define YZ_KIND_CODES 256
 #define YZ_NO_KIND 255
+
+/* How many addresses are looked up at most in one reading of a list. */
+#define YZ_MOST_ADDRESSES 64
 
 /* How many marks a walk has; they are numbered from 0 on. */
 #define YZ_MARKS 8
@@ -251,7 +256,7 @@ typedef struct yz_number {
     uint64_t number;
 } yz_number;
 
-/* Done: how many ranges a coverage has, or how many bytes were written. */
+/* Done: how many ranges a coverage has, how many bytes were written, or how many entries were read. */
 typedef struct yz_count {
     yz_result result;
     yz_refusal refusal;
@@ -346,6 +351,9 @@ typedef struct yz_location {
     uint64_t end;
     yz_part expression; /* of the section */
 } yz_location;
+
+/* The answers of addresses that are looked up in one reading of a list, each at its address's number, counted from 0. */
+typedef struct yz_found { yz_location at[YZ_MOST_ADDRESSES]; } yz_found;
 
 /* Done: an entry of a range list as it is written. */
 typedef struct yz_raw_range {
@@ -534,6 +542,29 @@ yz_location yz_location_lookup(const uint8_t *section, size_t section_len, const
                                size_t debug_addr_len, uint64_t debug_addr_base, yz_encoding encoding,
                                yz_file_type file_type, uint64_t offset, uint64_t base_address, uint64_t address);
 
+/* ---- Lookups of several addresses in one reading of a list: at most YZ_MOST_ADDRESSES, none above the one after it; some may be
+ * equal. The place in found that has an address's number gets its answer, the one of a lookup of this address alone: done, not
+ * there, or refused. Places past the last address are left as they were.
+ *
+ * Done: count is how many entries were read, as a walk counts them: as many as the longest of the single lookups reads. What
+ * follows these is not read. A refusal of opening is the answer of each address, and count is 0. Without addresses nothing is
+ * opened: the call is done, whatever else it is given, and count is 0.
+ *
+ * Refused: 20 for more addresses, then 21 for one that is above the one after it, before the list is opened; nothing else refuses
+ * the call. A refused call leaves found as it was. ---- */
+
+/* The ranges of the first entries that hold addresses: the answers of yz_range_lookup, with 0 and 0 for an expression. Done, or
+ * refused: 20, then 21. */
+yz_count yz_range_lookups(const uint8_t *section, size_t section_len, const uint8_t *debug_addr, size_t debug_addr_len,
+                          uint64_t debug_addr_base, yz_encoding encoding, uint64_t offset, uint64_t base_address,
+                          const uint64_t *addresses, size_t addresses_len, yz_found *found);
+
+/* The locations of addresses: the answers of yz_location_lookup. Done, or refused: 20, then 21. */
+yz_count yz_location_lookups(const uint8_t *section, size_t section_len, const uint8_t *debug_addr,
+                             size_t debug_addr_len, uint64_t debug_addr_base, yz_encoding encoding,
+                             yz_file_type file_type, uint64_t offset, uint64_t base_address, const uint64_t *addresses,
+                             size_t addresses_len, yz_found *found);
+
 /* ---- Coverage: the addresses of a list as their longest runs, ascending, in begins and ends. A refused call leaves begins and
  * ends as they were. Bounds are written whole, 0 past the count, which clears 16 * YZ_LIMIT bytes whatever the list; the calls
  * .._runs write the ranges and nothing else, and a list of few ranges pays for no more. ---- */
@@ -629,6 +660,13 @@ yz_raw_range yz_range_next_raw_by(const uint8_t *section, size_t section_len, yz
 yz_range yz_range_lookup_by(const uint8_t *section, size_t section_len, const uint8_t *debug_addr, size_t debug_addr_len,
                             uint64_t debug_addr_base, yz_encoding encoding, uint64_t offset, uint64_t base_address,
                             const uint8_t *kinds, size_t kinds_len, uint64_t address);
+
+/* The ranges by a table that hold addresses: the answers of yz_range_lookup_by. Done or refused, and written, as by
+ * yz_range_lookups. */
+yz_count yz_range_lookups_by(const uint8_t *section, size_t section_len, const uint8_t *debug_addr, size_t debug_addr_len,
+                             uint64_t debug_addr_base, yz_encoding encoding, uint64_t offset, uint64_t base_address,
+                             const uint8_t *kinds, size_t kinds_len, const uint64_t *addresses, size_t addresses_len,
+                             yz_found *found);
 
 /* The coverage by a table. Refused, and written, as by yz_range_coverage. */
 yz_count yz_range_coverage_by(const uint8_t *section, size_t section_len, const uint8_t *debug_addr,

@@ -5,8 +5,9 @@
 //! is a lent slice with a byte order; a list and the address table that it is read with have the
 //! same one, or are refused with [`Error::MixedByteOrders`]. Every walk has an end, since opening
 //! refuses an address size that isn't read. A walk is an [`Iterator`] too, as in gimli, and one that is
-//! [`Marked`] can be left and returned to. Range lists of a compiler that numbers the kinds of entries in
-//! its own way are read by a [`KindTable`].
+//! [`Marked`] can be left and returned to. Up to [`MOST_ADDRESSES`] addresses are looked up in one reading
+//! of a list, which gives [`Lookups`]. Range lists of a compiler that numbers the kinds of entries in its
+//! own way are read by a [`KindTable`].
 //!
 //! A [`Coverage`] is held by value, 16 × [`LIMIT`] bytes wherever it stands. A call that makes one of
 //! a list takes less than 70 × [`LIMIT`] bytes of stack, and 100 × where nothing is optimized; one
@@ -86,6 +87,8 @@ mod kinds;
 mod lists;
 #[path = "yeltzarun/loclists.rs"]
 mod loclists;
+#[path = "yeltzarun/lookups.rs"]
+mod lookups;
 #[path = "yeltzarun/marks.rs"]
 mod marks;
 #[path = "yeltzarun/reader.rs"]
@@ -106,17 +109,18 @@ pub use common::{
 pub use coverage::{CANONICAL_MAX, CanonicalList, Coverage, SHEET_MAX, Sheet};
 pub use entries::{Expression, LocationListEntry, Noted, Range, RawLocListEntry, RawRngListEntry};
 pub use error::{Error, Result};
-pub use ffi::{LIMIT, MARKS};
+pub use ffi::{LIMIT, MARKS, MOST_ADDRESSES};
 pub use kinds::{DwarfKinds, KindTable, Kinds, NO_KIND};
 pub use lists::ListsHeader;
 pub use loclists::{LocListIter, LocationLists, RawLocListIter};
+pub use lookups::Lookups;
 pub use marks::{ListWalk, Marked};
 pub use reader::{EndianSlice, Leb128, ReaderAddress};
 pub use rnglists::{RangeLists, RawRngListIter, RngListIter};
 pub use section::{DebugAddr, DebugLoc, DebugLocLists, DebugRanges, DebugRngLists};
 
 /// The version of the interface that this wrapper is for.
-pub const VERSION: u32 = 9;
+pub const VERSION: u32 = 10;
 
 /// The version of the library that is linked. Where it isn't [`VERSION`], its answers can't be
 /// understood.

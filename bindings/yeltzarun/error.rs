@@ -6,7 +6,7 @@ use core::fmt;
 /// What a call gives: its answer or a refusal.
 pub type Result<T> = core::result::Result<T, Error>;
 
-/// A refusal. No call gives those of the numbers 14 to 18, 20 and 21 yet.
+/// A refusal. No call gives those of the numbers 14 to 18 yet.
 #[derive(Debug, Clone, Copy, PartialEq, Eq, Hash)]
 pub enum Error {
     /// Bytes are missing.
@@ -47,9 +47,9 @@ pub enum Error {
     AddressTooLarge,
     /// The bytes are no [`KindTable`](super::KindTable).
     BadKindTable,
-    /// There are more than 64 addresses.
+    /// More than [`MOST_ADDRESSES`](super::MOST_ADDRESSES) addresses are looked up in one reading.
     TooManyAddresses,
-    /// An address is above the one after it.
+    /// An address that is looked up with others is above the one after it.
     DescendingAddresses,
     /// A list and its address table have different byte orders. The wrapper says so, before it asks
     /// the library, which reads both in one order. A table without bytes goes with either.

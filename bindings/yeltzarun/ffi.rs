@@ -4,6 +4,9 @@
 /// How many ranges a coverage holds at most.
 pub const LIMIT: usize = 3000;
 
+/// How many addresses are looked up at most in one reading of a list.
+pub const MOST_ADDRESSES: usize = 64;
+
 /// How many bytes a table of kind numbers has, and the byte of a code that has no kind.
 pub const KIND_CODES: usize = 256;
 pub const NO_KIND: u8 = 255;
@@ -14,6 +17,7 @@ pub const MARKS: usize = 8;
 pub type Ptr = *const u8;
 pub type Bounds = [u64; LIMIT];
 pub type Marks = [Mark; MARKS];
+pub type Found = [Answer<Location>; MOST_ADDRESSES];
 
 /// What a call comes to.
 pub const DONE: u32 = 0;
@@ -122,6 +126,7 @@ pinned! {
     Answer<ListsHeader>: 56, item 16;
     Answer<Range>: 32, item 16;
     Answer<Location>: 48, item 16;
+    Found: 3072;
     Answer<RawRange>: 48, item 16;
     Answer<RawLocation>: 64, item 16;
     Read: 16, next 0, number 8;
@@ -214,6 +219,16 @@ unsafe extern "C" {
         offset: u64, base_address: u64, address: u64,
     ) -> Answer<Location>;
 
+    pub fn yz_range_lookups(
+        s: Ptr, n: usize, t: Ptr, m: usize, table_base: u64, encoding: Encoding, offset: u64,
+        base_address: u64, addresses: *const u64, addresses_len: usize, found: &mut Found,
+    ) -> Answer<u64>;
+    pub fn yz_location_lookups(
+        s: Ptr, n: usize, t: Ptr, m: usize, table_base: u64, encoding: Encoding, file_type: u32,
+        offset: u64, base_address: u64, addresses: *const u64, addresses_len: usize,
+        found: &mut Found,
+    ) -> Answer<u64>;
+
     pub fn yz_range_coverage(
         s: Ptr, n: usize, t: Ptr, m: usize, table_base: u64, encoding: Encoding, offset: u64,
         base_address: u64, begins: *mut Bounds, ends: *mut Bounds,
@@ -266,6 +281,11 @@ unsafe extern "C" {
         s: Ptr, n: usize, t: Ptr, m: usize, table_base: u64, encoding: Encoding, offset: u64,
         base_address: u64, kinds: Ptr, kinds_len: usize, address: u64,
     ) -> Answer<Range>;
+    pub fn yz_range_lookups_by(
+        s: Ptr, n: usize, t: Ptr, m: usize, table_base: u64, encoding: Encoding, offset: u64,
+        base_address: u64, kinds: Ptr, kinds_len: usize, addresses: *const u64,
+        addresses_len: usize, found: &mut Found,
+    ) -> Answer<u64>;
     pub fn yz_range_coverage_by(
         s: Ptr, n: usize, t: Ptr, m: usize, table_base: u64, encoding: Encoding, offset: u64,
         base_address: u64, kinds: Ptr, kinds_len: usize, begins: *mut Bounds, ends: *mut Bounds,

@@ -105,6 +105,12 @@ pub(super) mod calls {
         fn next(self, l: Written, t: Table, walk: &mut ffi::Walk) -> ffi::Answer<ffi::Range>;
         fn next_raw(self, l: Written, walk: &mut ffi::Walk) -> ffi::Answer<ffi::RawRange>;
         fn lookup(self, whole: Whole, address: u64) -> ffi::Answer<ffi::Range>;
+        fn lookups(
+            self,
+            whole: Whole,
+            addresses: &[u64],
+            found: &mut ffi::Found,
+        ) -> ffi::Answer<u64>;
         /// # Safety
         ///
         /// Both places can be written. A call that is done has written them whole.
@@ -124,8 +130,8 @@ pub(super) mod calls {
     /// The calls of the library for a type: their names, and what they are lent beside all else.
     macro_rules! calls {
         (
-            $type:ty: $next:ident, $next_raw:ident, $lookup:ident, $coverage:ident, $runs:ident,
-            $canonical:ident, |$kinds:ident| $($lent:expr),*
+            $type:ty: $next:ident, $next_raw:ident, $lookup:ident, $lookups:ident, $coverage:ident,
+            $runs:ident, $canonical:ident, |$kinds:ident| $($lent:expr),*
         ) => {
             // SAFETY, of every call: each pointer and length are of one slice, and what is written to
             // is lent alone.
@@ -148,6 +154,21 @@ pub(super) mod calls {
                         ffi::$lookup(
                             l.ptr(), l.len(), t.ptr(), t.len(), t.base, l.encoding, offset,
                             base_address, $($lent,)* address,
+                        )
+                    }
+                }
+
+                fn lookups(
+                    self,
+                    whole: Whole,
+                    addresses: &[u64],
+                    found: &mut ffi::Found,
+                ) -> ffi::Answer<u64> {
+                    let ($kinds, Whole { list: l, table: t, offset, base_address }) = (self, whole);
+                    unsafe {
+                        ffi::$lookups(
+                            l.ptr(), l.len(), t.ptr(), t.len(), t.base, l.encoding, offset,
+                            base_address, $($lent,)* addresses.as_ptr(), addresses.len(), found,
                         )
                     }
                 }
@@ -202,12 +223,13 @@ pub(super) mod calls {
     }
 
     calls! {
-        DwarfKinds: yz_range_next, yz_range_next_raw, yz_range_lookup, yz_range_coverage,
-        yz_range_runs, yz_range_canonical, |_kinds|
+        DwarfKinds: yz_range_next, yz_range_next_raw, yz_range_lookup, yz_range_lookups,
+        yz_range_coverage, yz_range_runs, yz_range_canonical, |_kinds|
     }
 
     calls! {
-        &KindTable: yz_range_next_by, yz_range_next_raw_by, yz_range_lookup_by, yz_range_coverage_by,
-        yz_range_runs_by, yz_range_canonical_by, |kinds| kinds.bytes.as_ptr(), kinds.bytes.len()
+        &KindTable: yz_range_next_by, yz_range_next_raw_by, yz_range_lookup_by, yz_range_lookups_by,
+        yz_range_coverage_by, yz_range_runs_by, yz_range_canonical_by,
+        |kinds| kinds.bytes.as_ptr(), kinds.bytes.len()
     }
 }

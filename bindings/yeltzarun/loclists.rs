@@ -6,7 +6,7 @@ use super::walk::{Table, Written};
 use super::{
     CanonicalList, Coverage, DebugAddr, DebugAddrBase, DebugLoc, DebugLocLists, DebugLocListsBase,
     DebugLocListsIndex, DwarfFileType, Encoding, EndianSlice, LocationListEntry,
-    LocationListsOffset, Noted, Range, RawLocListEntry, Result,
+    LocationListsOffset, Lookups, Noted, Range, RawLocListEntry, Result,
 };
 
 /// The sections with location lists.
@@ -148,6 +148,72 @@ impl<'a> LocationLists<'a> {
         };
         let found = answer.done_unless(ffi::NOT_THERE)?;
         Ok(found.map(|location| LocationListEntry::of(l.section, location)))
+    }
+
+    /// The location of each of several addresses, in one reading of the list. An address has the answer
+    /// that [`lookup`](LocationLists::lookup) gives it, refusals included, and what none of them needs
+    /// isn't read.
+    ///
+    /// They ascend, and some may be equal. [`TooManyAddresses`](super::Error::TooManyAddresses) for more
+    /// than [`MOST_ADDRESSES`](super::MOST_ADDRESSES), then
+    /// [`DescendingAddresses`](super::Error::DescendingAddresses), both before the list is opened. What
+    /// opening is refused with is the answer of each address; without addresses nothing is opened.
+    ///
+    /// ```
+    /// use yeltzarun::*;
+    ///
+    /// // A default location, and one from 0x10 to 0x20 behind it.
+    /// let list = [5, 1, 0x50, 7, 0x10, 0, 0, 0, 0x20, 0, 0, 0, 1, 0x51, 0];
+    /// let section = DebugLocLists::new(&list, RunTimeEndian::Little);
+    /// let lists = LocationLists::new(DebugLoc::default(), section);
+    /// let encoding = Encoding { address_size: 4, format: Format::Dwarf32, version: 5 };
+    /// let (offset, main) = (LocationListsOffset(0), DwarfFileType::Main);
+    /// let (table, base) = (DebugAddr::default(), DebugAddrBase(0));
+    ///
+    /// let addresses = [0, 0x10, 0x20, u64::MAX];
+    /// let four = lists.lookups(offset, encoding, main, 0, &table, base, &addresses)?;
+    /// let mut told = Vec::new();
+    /// for found in four.found {
+    ///     told.push(found?.map(|location| (location.range.begin, location.data.bytes())));
+    /// }
+    /// assert_eq!(told, [Some((0, &[0x50][..])), Some((0x10, &[0x51])), Some((0, &[0x50])), None]);
+    /// assert_eq!(four.entries, 3); // The end mark is one, too.
+    /// # Ok::<(), Error>(())
+    /// ```
+    #[allow(clippy::too_many_arguments)]
+    pub fn lookups(
+        &self,
+        offset: LocationListsOffset,
+        unit_encoding: Encoding,
+        file_type: DwarfFileType,
+        base_address: u64,
+        debug_addr: &DebugAddr<'a>,
+        debug_addr_base: DebugAddrBase,
+        addresses: &[u64],
+    ) -> Result<Lookups<LocationListEntry<'a>>> {
+        let l = self.written(unit_encoding);
+        let t = l.table(debug_addr, debug_addr_base)?;
+        Lookups::made(
+            addresses,
+            // SAFETY: each pointer and length are of one slice, and the places are lent alone.
+            |found| unsafe {
+                ffi::yz_location_lookups(
+                    l.ptr(),
+                    l.len(),
+                    t.ptr(),
+                    t.len(),
+                    t.base,
+                    l.encoding,
+                    file_type.number(),
+                    offset.0,
+                    base_address,
+                    addresses.as_ptr(),
+                    addresses.len(),
+                    found,
+                )
+            },
+            |location| LocationListEntry::of(l.section, location),
+        )
     }
 
     /// The addresses that the list at an offset covers.

@@ -7,7 +7,7 @@ use super::walk::{Table, Written};
 use super::{
     CanonicalList, Coverage, DebugAddr, DebugAddrBase, DebugRanges, DebugRngLists,
     DebugRngListsBase, DebugRngListsIndex, DwarfKinds, Encoding, EndianSlice, KindTable, Kinds,
-    Noted, Range, RangeListsOffset, RawRngListEntry, Result,
+    Lookups, Noted, Range, RangeListsOffset, RawRngListEntry, Result,
 };
 
 /// The sections with range lists, and what the kinds of their entries are read by.
@@ -123,6 +123,53 @@ impl<'a, K: Kinds> RangeLists<'a, K> {
         let whole = self.whole(offset, unit_encoding, base_address, debug_addr, debug_addr_base)?;
         let answer = self.kinds.lookup(whole, address);
         Ok(answer.done_unless(ffi::NOT_THERE)?.map(Range::of))
+    }
+
+    /// The first range that holds each of several addresses, in one reading of the list. An address has
+    /// the answer that [`lookup`](RangeLists::lookup) gives it, refusals included, and what none of
+    /// them needs isn't read.
+    ///
+    /// They ascend, and some may be equal. [`TooManyAddresses`](super::Error::TooManyAddresses) for more
+    /// than [`MOST_ADDRESSES`](super::MOST_ADDRESSES), then
+    /// [`DescendingAddresses`](super::Error::DescendingAddresses), both before the list is opened. What
+    /// opening is refused with is the answer of each address; without addresses nothing is opened.
+    ///
+    /// ```
+    /// use yeltzarun::*;
+    ///
+    /// // 0x10 to 0x20, 0x30 to 0x40, and a kind that there is none of.
+    /// let list = [7, 0x10, 0, 0, 0, 0x10, 7, 0x30, 0, 0, 0, 0x10, 8];
+    /// let section = DebugRngLists::new(&list, RunTimeEndian::Little);
+    /// let lists = RangeLists::new(DebugRanges::default(), section);
+    /// let encoding = Encoding { address_size: 4, format: Format::Dwarf32, version: 5 };
+    /// let (offset, table, base) = (RangeListsOffset(0), DebugAddr::default(), DebugAddrBase(0));
+    /// let lookups = |addresses: &[u64]| lists.lookups(offset, encoding, 0, &table, base, addresses);
+    ///
+    /// let (first, second) = (Range { begin: 0x10, end: 0x20 }, Range { begin: 0x30, end: 0x40 });
+    /// let refused = Err(Error::UnknownRangeListsEntry(8));
+    /// let three = lookups(&[0x10, 0x20, 0x35])?;
+    /// assert_eq!(three.found, [Ok(Some(first)), refused, Ok(Some(second))]);
+    /// assert_eq!(three.entries, 2);
+    /// // Behind the last range that is asked for nothing is read.
+    /// assert_eq!(lookups(&[0x10, 0x1f])?, Lookups { found: vec![Ok(Some(first)); 2], entries: 1 });
+    /// assert_eq!(lookups(&[0x35, 0x10]), Err(Error::DescendingAddresses));
+    /// # Ok::<(), Error>(())
+    /// ```
+    pub fn lookups(
+        &self,
+        offset: RangeListsOffset,
+        unit_encoding: Encoding,
+        base_address: u64,
+        debug_addr: &DebugAddr<'a>,
+        debug_addr_base: DebugAddrBase,
+        addresses: &[u64],
+    ) -> Result<Lookups<Range>> {
+        let whole = self.whole(offset, unit_encoding, base_address, debug_addr, debug_addr_base)?;
+        Lookups::made(
+            addresses,
+            |found| self.kinds.lookups(whole, addresses, found),
+            |ffi::Location { begin, end, .. }| Range { begin, end },
+        )
     }
 
     /// The addresses that the list at an offset covers.
