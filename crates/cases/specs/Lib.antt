@@ -8,3 +8,4 @@ pub mod PaddedCases
 pub mod TableHeaders
 pub mod ThreeBytes
 pub mod Pinned
+pub mod StackCases
