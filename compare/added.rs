@@ -6,7 +6,7 @@
 use generator::{READ, Random};
 use oracle::oracle_api::*;
 
-use crate::differ::{Found, Met, Noted, Port};
+use crate::differ::{Found, Met, Noted, Port, Stack};
 use crate::measure::Walk;
 
 /// How many ranges a coverage holds, and the walk that makes one may yield.
@@ -55,6 +55,13 @@ pub trait Tabled: Added {
     fn next_by(&self, list: &List, kinds: &[u8], walk: State) -> (Answer<Yielded>, State);
     fn next_raw_by(&self, list: &List, kinds: &[u8], walk: State) -> (Answer<Noted>, State);
     fn lookup_by(&self, list: &List, kinds: &[u8], address: u64) -> Found;
+    fn lookups_by(
+        &self,
+        list: &List,
+        kinds: &[u8],
+        addresses: &[u64],
+        found: &mut Stack,
+    ) -> Result<u64, Refusal>;
     fn coverage_by(&self, list: &List, kinds: &[u8], kept: &mut Kept) -> Wrote;
     fn runs_by(&self, list: &List, kinds: &[u8], begins: &mut [u64], ends: &mut [u64]) -> Wrote;
     fn canonical_by(&self, list: &List, kinds: &[u8], output: &mut [u8]) -> Wrote;

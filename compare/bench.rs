@@ -3,7 +3,9 @@
 //!   bench [--quick] [filter]         times, and how they compare
 //!   bench --names [filter]           the rows' names
 //!   bench --count side row passes    the row so often on one side: `port`,
-//!                                    `one` or `several`
+//!                                    `one` or `several`; or, where addresses are
+//!                                    looked up in one reading, `stack`, `lookup`,
+//!                                    `lookups`, `gimli` or `gimlis`
 //!   bench --marked [filter]          all rows and sides, a call of `bench_mark`
 //!                                    before each and after it
 //!   bench --real folder              times over all lists of the builds that
@@ -36,9 +38,10 @@ mod elf;
 
 use bench_gimli::{Choosing, SharedChoosing};
 use bench_gimli::{Covering, Heading, Lists, Marking, Putting, Seeking, Walking, Writing};
-use bench_gimli::{Entering, Numbering, SharedEntering, SharedNumbering};
-use bench_rows::{Kind, Row, Tabled, Task};
+use bench_gimli::{Entering, Numbering, SharedEntering, SharedNumbering, Stacking};
+use bench_rows::{Kind, NOWHERE, Row, Stack, Tabled, Task};
 use oracle::endianity::RunTimeEndian;
+use std::collections::BTreeSet;
 use std::hint::black_box;
 
 /// The row's task on one side, so many times; what it answers goes into a sum.
@@ -267,6 +270,56 @@ fn loads(row: &Row) -> [Run<'_>; 3] {
     [(); 3].map(|_| Box::new(move |passes| bench_sets::load(kinds, passes)) as Run<'_>)
 }
 
+const STACK_SIDES: [&str; 5] = ["stack", "lookup", "lookups", "gimli", "gimlis"];
+
+/// All addresses in one reading; one lookup that reads the whole list; a lookup for
+/// each address; and these two over gimli with one caller.
+fn stack_sides(Stack { row, addresses }: &Stack) -> [Run<'_>; 5] {
+    let mut found = bench_port::places();
+    let lists = || Lists::<Stacking>::new(row);
+    let (one, each) = (lists(), lists());
+    if row.kind != Kind::Ranges {
+        return [
+            Box::new(move |passes| bench_port::stack_locations(row, addresses, &mut found, passes)),
+            Box::new(|passes| bench_port::each_location(row, &[NOWHERE], passes)),
+            Box::new(|passes| bench_port::each_location(row, addresses, passes)),
+            Box::new(move |passes| bench_gimli::each_location(&one, &[NOWHERE], passes)),
+            Box::new(move |passes| bench_gimli::each_location(&each, addresses, passes)),
+        ];
+    }
+    let gimli: [Run<'_>; 2] = [
+        Box::new(move |passes| bench_gimli::each_range(&one, &[NOWHERE], passes)),
+        Box::new(move |passes| bench_gimli::each_range(&each, addresses, passes)),
+    ];
+    let port: [Run<'_>; 3] = match row.tabled {
+        None => [
+            Box::new(move |passes| bench_port::stack_ranges(row, addresses, &mut found, passes)),
+            Box::new(|passes| bench_port::each_range(row, &[NOWHERE], passes)),
+            Box::new(|passes| bench_port::each_range(row, addresses, passes)),
+        ],
+        Some(Tabled { kinds, section }) => {
+            let rows = [(); 3].map(|_| Row { section, ..row.clone() });
+            let [a, b, c] = rows;
+            [
+                Box::new(move |passes| {
+                    bench_port::stack_ranges_by(&a, kinds, addresses, &mut found, passes)
+                }),
+                Box::new(move |passes| bench_port::each_range_by(&b, kinds, &[NOWHERE], passes)),
+                Box::new(move |passes| bench_port::each_range_by(&c, kinds, addresses, passes)),
+            ]
+        }
+    };
+    let ([a, b, c], [d, e]) = (port, gimli);
+    [a, b, c, d, e]
+}
+
+fn check_stack(stack: &Stack, runs: &mut [Run<'_>; 5]) {
+    let [one_reading, nowhere, each, gimli_nowhere, gimli_each] = runs.each_mut().map(|run| run(1));
+    let sums = [one_reading, each, gimli_each];
+    let same = one_reading == each && each == gimli_each;
+    assert!(same && (nowhere, gimli_nowhere) == (0, 0), "{}: {sums:x?}", stack.row.name);
+}
+
 /// Both sides must have read the same before anything is timed.
 fn check(row: &Row, runs: &mut [Run<'_>; 3]) {
     let lists = Lists::<RunTimeEndian>::new(row);
@@ -319,7 +372,7 @@ fn clock() -> f64 {
 }
 
 /// So many passes that the faster side fills a sample.
-fn passes(runs: &mut [Run<'_>; 3], sample: f64) -> u64 {
+fn passes<const N: usize>(runs: &mut [Run<'_>; N], sample: f64) -> u64 {
     let mut passes = 1;
     loop {
         let times = runs.each_mut().map(|run| time(run, passes));
@@ -360,19 +413,29 @@ struct Measured {
 
 /// A pass reads so many entries, or lists.
 fn measure(name: &str, each: u64, runs: &mut [Run<'_>; 3], settings: &Settings) -> Measured {
-    let passes = passes(runs, settings.sample);
-    let rounds: Vec<[f64; 3]> =
-        (0..settings.rounds).map(|_| runs.each_mut().map(|run| time(run, passes))).collect();
+    let (passes, rounds) = rounds(runs, settings);
     let each = (passes * each) as f64;
-    let median =
-        |side: usize| Spread::new(rounds.iter().map(|round| round[side]).collect()).median();
-    let ratios =
-        |side: usize| Spread::new(rounds.iter().map(|round| round[0] / round[side]).collect());
     Measured {
         name: name.to_string(),
-        times: [0, 1, 2].map(|side| median(side) / each),
-        ratios: [ratios(1), ratios(2)],
+        times: [0, 1, 2].map(|side| median(&rounds, side) / each),
+        ratios: [ratios(&rounds, 1), ratios(&rounds, 2)],
     }
+}
+
+/// The times of all sides, round by round, and of how many passes.
+fn rounds<const N: usize>(runs: &mut [Run<'_>; N], settings: &Settings) -> (u64, Vec<[f64; N]>) {
+    let passes = passes(runs, settings.sample);
+    let round = |_| runs.each_mut().map(|run| time(run, passes));
+    (passes, (0..settings.rounds).map(round).collect())
+}
+
+fn median<const N: usize>(rounds: &[[f64; N]], side: usize) -> f64 {
+    Spread::new(rounds.iter().map(|round| round[side]).collect()).median()
+}
+
+/// The first side to another.
+fn ratios<const N: usize>(rounds: &[[f64; N]], side: usize) -> Spread {
+    Spread::new(rounds.iter().map(|round| round[0] / round[side]).collect())
 }
 
 fn header(each: &str) {
@@ -382,17 +445,19 @@ fn header(each: &str) {
     );
 }
 
+/// Median, quartiles, range.
+fn ratio(spread: &Spread) -> String {
+    format!(
+        "{:5.2}  {:5.2} {:5.2}  {:5.2} {:5.2}",
+        spread.median(),
+        spread.at(0.25),
+        spread.at(0.75),
+        spread.at(0.0),
+        spread.at(1.0)
+    )
+}
+
 fn print(measured: &Measured) {
-    let ratio = |spread: &Spread| {
-        format!(
-            "{:5.2}  {:5.2} {:5.2}  {:5.2} {:5.2}",
-            spread.median(),
-            spread.at(0.25),
-            spread.at(0.75),
-            spread.at(0.0),
-            spread.at(1.0)
-        )
-    };
     let [port, one, several] = measured.times;
     let [to_one, to_several] = &measured.ratios;
     println!(
@@ -429,20 +494,67 @@ fn fail(message: &str) -> ! {
     std::process::exit(2)
 }
 
-fn chosen(wanted: impl Fn(&str) -> bool) -> Vec<Row> {
-    let rows = bench_rows::rows(&wanted);
-    if rows.is_empty() {
+fn chosen(wanted: impl Fn(&str) -> bool) -> (Vec<Row>, Vec<Stack>) {
+    let (rows, stacks) = (bench_rows::rows(&wanted), bench_rows::stacks(&wanted));
+    if rows.is_empty() && stacks.is_empty() {
         fail("no row has such a name");
     }
-    rows
+    (rows, stacks)
 }
 
-fn table(filter: &str, settings: &Settings) {
-    let rows = chosen(|name| name.contains(filter));
+fn tables(filter: &str, settings: &Settings) {
+    let (rows, stacks) = chosen(|name| name.contains(filter));
+    if !rows.is_empty() {
+        table(&rows, settings);
+    }
+    if !stacks.is_empty() {
+        stack_table(&stacks, settings);
+    }
+}
+
+/// Nanoseconds for each call, or for the calls for all addresses.
+fn stack_table(stacks: &[Stack], settings: &Settings) {
+    println!("{} rounds of {}", settings.rounds, STACK_SIDES.join(", "));
+    print!("{:44}", "ns for all addresses");
+    STACK_SIDES.iter().for_each(|side| print!(" {side:>9}"));
+    println!("   {:31}  {:>9} {:>6} {:>7}", "stack/lookup", "/lookups", "/gimli", "/gimlis");
+    let mut to_one = Vec::new();
+    for stack in stacks {
+        let mut runs = stack_sides(stack);
+        check_stack(stack, &mut runs);
+        let (passes, rounds) = rounds(&mut runs, settings);
+        print!("{:44}", stack.row.name);
+        for side in 0..STACK_SIDES.len() {
+            print!(" {:9.1}", median(&rounds, side) / passes as f64);
+        }
+        let [one, each, gimli, gimlis] = [1, 2, 3, 4].map(|side| ratios(&rounds, side));
+        let medians = [&each, &gimli, &gimlis].map(Spread::median);
+        let [each, gimli, gimlis] = medians;
+        println!("   {}  {each:9.2} {gimli:6.2} {gimlis:7.2}", ratio(&one));
+        to_one.push((stack.row.entries, stack.addresses.len(), one.median()));
+    }
+    println!();
+    let sorts: BTreeSet<_> = to_one.iter().map(|&(entries, number, _)| (entries, number)).collect();
+    for (entries, number) in sorts {
+        let of = |row: &&(u64, usize, f64)| (row.0, row.1) == (entries, number);
+        let ratios = Spread::new(to_one.iter().filter(of).map(|row| row.2).collect());
+        let above = ratios.0.iter().filter(|&&ratio| ratio > 1.5).count();
+        println!(
+            "stack/lookup, entries {entries}, addresses {number}: {} rows, {above} above 1.5; \
+             best {:.2}, median {:.2}, worst {:.2}",
+            ratios.0.len(),
+            ratios.at(0.0),
+            ratios.median(),
+            ratios.at(1.0)
+        );
+    }
+}
+
+fn table(rows: &[Row], settings: &Settings) {
     println!("{} rounds of port, one, several", settings.rounds);
     header("ns for each entry");
     let mut all = Vec::new();
-    for row in &rows {
+    for row in rows {
         let mut runs = sides(row);
         check(row, &mut runs);
         let measured = measure(&row.name, row.entries, &mut runs, settings);
@@ -454,14 +566,22 @@ fn table(filter: &str, settings: &Settings) {
 }
 
 fn count(side: &str, wanted: &str, passes: &str) {
-    let Some(side) = SIDES.iter().position(|&word| word == side) else {
-        fail("a side is port, one or several");
-    };
     let Ok(passes) = passes.parse::<u64>() else { fail("not a number of passes") };
-    let row = &chosen(|name| name == wanted)[0];
-    let mut runs = sides(row);
-    black_box(runs[side](passes));
-    println!("{} entries", passes * row.entries);
+    let (rows, stacks) = chosen(|name| name == wanted);
+    let at = |sides: &[&str]| match sides.iter().position(|&word| word == side) {
+        Some(at) => at,
+        None => fail(&format!("a side is {}", sides.join(", "))),
+    };
+    match rows.first() {
+        Some(row) => {
+            black_box(sides(row)[at(&SIDES)](passes));
+            println!("{} entries", passes * row.entries);
+        }
+        None => {
+            black_box(stack_sides(&stacks[0])[at(&STACK_SIDES)](passes));
+            println!("{passes} readings");
+        }
+    }
 }
 
 #[inline(never)]
@@ -475,22 +595,35 @@ pub extern "C" fn bench_mark(section: u64) {
 fn mark(name: &str, each: u64, runs: &mut [Run<'_>; 3]) {
     let passes = 1 + 2000 / each;
     for (side, run) in SIDES.iter().zip(runs) {
-        println!("{name} {side} {}", passes * each);
-        black_box(run(1));
-        bench_mark(1);
-        black_box(run(passes));
-        bench_mark(0);
+        mark_side(&format!("{name} {side} {}", passes * each), passes, run);
     }
 }
 
+fn mark_side(line: &str, passes: u64, run: &mut Run<'_>) {
+    println!("{line}");
+    black_box(run(1));
+    bench_mark(1);
+    black_box(run(passes));
+    bench_mark(0);
+}
+
 fn marked(filter: &str) {
-    for row in &chosen(|name| name.contains(filter)) {
+    let (rows, stacks) = chosen(|name| name.contains(filter));
+    for row in &rows {
         mark(&row.name, row.entries, &mut sides(row));
+    }
+    for stack in &stacks {
+        let (name, passes) = (&stack.row.name, 1 + 100 / stack.row.entries);
+        for (side, run) in STACK_SIDES.iter().zip(&mut stack_sides(stack)) {
+            mark_side(&format!("{name} {side} {passes}"), passes, run);
+        }
     }
 }
 
 fn names(filter: &str) {
-    chosen(|name| name.contains(filter)).iter().for_each(|row| println!("{}", row.name));
+    let (rows, stacks) = chosen(|name| name.contains(filter));
+    let stacks = stacks.iter().map(|stack| &stack.row);
+    rows.iter().chain(stacks).for_each(|row| println!("{}", row.name));
 }
 
 fn main() {
@@ -499,9 +632,9 @@ fn main() {
     let full = Settings { rounds: 25, sample: 500_000.0 };
     let quick = Settings { rounds: 15, sample: 60_000.0 };
     match words[..] {
-        [] => table("", &full),
-        ["--quick"] => table("", &quick),
-        ["--quick", filter] | [filter, "--quick"] => table(filter, &quick),
+        [] => tables("", &full),
+        ["--quick"] => tables("", &quick),
+        ["--quick", filter] | [filter, "--quick"] => tables(filter, &quick),
         ["--names"] => names(""),
         ["--names", filter] => names(filter),
         ["--count", side, row, passes] => count(side, row, passes),
@@ -509,7 +642,7 @@ fn main() {
         ["--marked", filter] => marked(filter),
         ["--real", folder] => bench_real::table(folder, &full),
         ["--marked-real", folder] => bench_real::marked(folder),
-        [filter] if !filter.starts_with('-') => table(filter, &full),
+        [filter] if !filter.starts_with('-') => tables(filter, &full),
         _ => fail("bench [--quick] [filter] | --names [filter] | --count side row passes"),
     }
 }

@@ -4,14 +4,14 @@
 //! Over `RunTimeEndian` all loops of the program share one `next`, which stays
 //! a call ("several callers"). Each of the byte orders `Walking`, `Seeking`,
 //! `Covering`, `Putting`, `Writing`, `Heading`, `Marking`, `Entering`,
-//! `Choosing`, `Numbering` is a `RunTimeEndian` under another name, so that its
-//! `next` has one caller and is inlined there ("one caller"); those with `Real`
-//! before are for loops over many lists. Raw entries, with or without their
-//! conversion, and numbers have an order for several callers, too, whose name
-//! begins with `Shared`: the raw `next` over `RunTimeEndian` has one caller, the
-//! other `next`, and so has the conversion.
+//! `Choosing`, `Numbering`, `Stacking` is a `RunTimeEndian` under another name,
+//! so that its `next` has one caller and is inlined there ("one caller"); those
+//! with `Real` before are for loops over many lists. Raw entries, with or without
+//! their conversion, and numbers have an order for several callers, too, whose
+//! name begins with `Shared`: the raw `next` over `RunTimeEndian` has one caller,
+//! the other `next`, and so has the conversion.
 
-use crate::bench_port::raw_sum;
+use crate::bench_port::{raw_sum, stack_sum};
 use crate::bench_rows::{Kind, Row};
 use oracle::common::{DebugAddrBase, Encoding, Format, LocationListsOffset, RangeListsOffset};
 use oracle::endianity::{Endianity, RunTimeEndian};
@@ -46,7 +46,7 @@ macro_rules! orders {
 
 orders! { Walking Seeking Covering Putting Writing Heading Marking }
 orders! { Entering SharedEntering Choosing SharedChoosing Numbering SharedNumbering }
-orders! { RealWalking RealSeeking RealCovering RealPutting RealWriting }
+orders! { Stacking RealWalking RealSeeking RealCovering RealPutting RealWriting }
 
 /// A byte order that the program chooses when it runs.
 pub trait Order: Endianity + From<RunTimeEndian> {}
@@ -426,6 +426,25 @@ fn find_location<'a, E: Order>(
         }
     }
     Ok(None)
+}
+
+/// A lookup for each address.
+#[inline(never)]
+pub fn each_range<E: Order>(lists: &Lists<'_, E>, addresses: &[u64], passes: u64) -> u64 {
+    repeat!(passes, {
+        let (lists, addresses) = (black_box(lists), black_box(addresses));
+        let one = |&address| lookup_range_once(lists, lists.offset, address);
+        stack_sum(addresses.iter().map(one))
+    })
+}
+
+#[inline(never)]
+pub fn each_location<E: Order>(lists: &Lists<'_, E>, addresses: &[u64], passes: u64) -> u64 {
+    repeat!(passes, {
+        let (lists, addresses) = (black_box(lists), black_box(addresses));
+        let one = |&address| lookup_location_once(lists, lists.offset, address);
+        stack_sum(addresses.iter().map(one))
+    })
 }
 
 #[inline(never)]

@@ -11,7 +11,7 @@ mod ffi;
 use crate::bench_rows::{Kind, Row};
 use crate::bench_sets::{Coverage, Runs, sum_of_bytes};
 use ffi::*;
-pub use ffi::{Encoding, LIMIT};
+pub use ffi::{Encoding, Found, LIMIT};
 use std::hint::black_box;
 
 #[cold]
@@ -319,11 +319,17 @@ pub fn lookup_range_by(row: &Row, kinds: &[u8], address: u64, passes: u64) -> u6
     let encoding = encoding(row);
     repeat!(passes, {
         let (row, encoding, kinds) = (black_box(row), *black_box(&encoding), black_box(kinds));
-        let ((s, n, t, m), k, l) = (lent(row), kinds.as_ptr(), kinds.len());
-        let (table_base, at, base) = (row.table_base, row.offset, row.base_address);
-        found_range(unsafe {
-            yz_range_lookup_by(s, n, t, m, table_base, encoding, at, base, k, l, address)
-        })
+        lookup_range_by_once(row, &encoding, kinds, address)
+    })
+}
+
+#[inline(always)]
+fn lookup_range_by_once(row: &Row, encoding: &Encoding, kinds: &[u8], address: u64) -> u64 {
+    let ((s, n, t, m), encoding) = (lent(row), *encoding);
+    let (table_base, at, base) = (row.table_base, row.offset, row.base_address);
+    let (k, l) = (kinds.as_ptr(), kinds.len());
+    found_range(unsafe {
+        yz_range_lookup_by(s, n, t, m, table_base, encoding, at, base, k, l, address)
     })
 }
 
@@ -348,6 +354,115 @@ pub fn lookup_location_once(row: &Row, encoding: &Encoding, offset: u64, address
         NOT_THERE => 0,
         _ => refused(found.refusal),
     }
+}
+
+/// The places that lookups of many addresses write their answers to.
+pub fn places() -> Box<Found> {
+    let item = Location::default();
+    Box::new([Answer { result: REFUSED, refusal: 0, refusal_value: 0, item }; MOST_ADDRESSES])
+}
+
+/// What the answers to some addresses come to.
+#[inline(always)]
+pub fn stack_sum(sums: impl Iterator<Item = u64>) -> u64 {
+    sums.fold(0, |sum, found| sum.rotate_left(1) ^ found)
+}
+
+/// One call for all addresses, which reads the whole list. Of a range, too, the
+/// answer is a location, without an expression.
+#[inline(always)]
+fn stack(
+    row: &Row,
+    addresses: &[u64],
+    found: &mut Found,
+    passes: u64,
+    call: impl Fn(&Row, Encoding, *const u64, usize, &mut Found) -> Answer<u64>,
+) -> u64 {
+    let encoding = encoding(row);
+    let read = repeat!(passes, {
+        let (row, encoding) = (black_box(row), *black_box(&encoding));
+        let addresses = black_box(addresses);
+        let read = call(row, encoding, addresses.as_ptr(), addresses.len(), found);
+        black_box(&*found);
+        counted(read)
+    });
+    assert_eq!(read, row.entries + 1, "{}", row.name);
+    stack_sum(found.iter().take(addresses.len()).map(|found| match found.result {
+        DONE => added(found.item.begin, found.item),
+        NOT_THERE => 0,
+        _ => refused(found.refusal),
+    }))
+}
+
+#[inline(never)]
+pub fn stack_ranges(row: &Row, addresses: &[u64], found: &mut Found, passes: u64) -> u64 {
+    stack(row, addresses, found, passes, |row, encoding, a, o, found| {
+        let ((s, n, t, m), table_base) = (lent(row), row.table_base);
+        let (at, base) = (row.offset, row.base_address);
+        unsafe { yz_range_lookups(s, n, t, m, table_base, encoding, at, base, a, o, found) }
+    })
+}
+
+#[inline(never)]
+pub fn stack_ranges_by(
+    row: &Row,
+    kinds: &[u8],
+    addresses: &[u64],
+    found: &mut Found,
+    passes: u64,
+) -> u64 {
+    stack(row, addresses, found, passes, |row, encoding, a, o, found| {
+        let ((s, n, t, m), table_base) = (lent(row), row.table_base);
+        let (at, base, k, l) = (row.offset, row.base_address, kinds.as_ptr(), kinds.len());
+        unsafe {
+            yz_range_lookups_by(s, n, t, m, table_base, encoding, at, base, k, l, a, o, found)
+        }
+    })
+}
+
+#[inline(never)]
+pub fn stack_locations(row: &Row, addresses: &[u64], found: &mut Found, passes: u64) -> u64 {
+    stack(row, addresses, found, passes, |row, encoding, a, o, found| {
+        let ((s, n, t, m), table_base) = (lent(row), row.table_base);
+        let (at, base, file) = (row.offset, row.base_address, file_type(row));
+        unsafe {
+            yz_location_lookups(s, n, t, m, table_base, encoding, file, at, base, a, o, found)
+        }
+    })
+}
+
+/// A call for each address.
+#[inline(never)]
+pub fn each_range(row: &Row, addresses: &[u64], passes: u64) -> u64 {
+    let encoding = encoding(row);
+    repeat!(passes, {
+        let (row, encoding, addresses) =
+            (black_box(row), black_box(&encoding), black_box(addresses));
+        let one = |&address| lookup_range_once(row, encoding, row.offset, address);
+        stack_sum(addresses.iter().map(one))
+    })
+}
+
+#[inline(never)]
+pub fn each_range_by(row: &Row, kinds: &[u8], addresses: &[u64], passes: u64) -> u64 {
+    let encoding = encoding(row);
+    repeat!(passes, {
+        let (row, encoding, addresses) =
+            (black_box(row), black_box(&encoding), black_box(addresses));
+        let one = |&address| lookup_range_by_once(row, encoding, kinds, address);
+        stack_sum(addresses.iter().map(one))
+    })
+}
+
+#[inline(never)]
+pub fn each_location(row: &Row, addresses: &[u64], passes: u64) -> u64 {
+    let encoding = encoding(row);
+    repeat!(passes, {
+        let (row, encoding, addresses) =
+            (black_box(row), black_box(&encoding), black_box(addresses));
+        let one = |&address| lookup_location_once(row, encoding, row.offset, address);
+        stack_sum(addresses.iter().map(one))
+    })
 }
 
 #[inline(never)]

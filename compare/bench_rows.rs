@@ -75,13 +75,15 @@ enum Form {
     StartEndIndex,
     StartLengthIndex,
     OffsetPair,
+    /// An offset pair that stands apart from all others.
+    FarPair,
     Default,
     Base,
     StartEnd,
     StartLength,
 }
 
-use Form::{BarePair, Base, BaseIndex, Default, OffsetPair};
+use Form::{BarePair, Base, BaseIndex, Default, FarPair, OffsetPair};
 use Form::{StartEnd, StartEndIndex, StartLength, StartLengthIndex};
 
 impl Form {
@@ -185,6 +187,7 @@ impl Writer {
     }
 
     fn code(&mut self, form: Form) {
+        let form = if form == FarPair { OffsetPair } else { form };
         let forms: &[Form] = if self.kind == Kind::Ranges { &RANGE_FORMS } else { &LOCATION_FORMS };
         let code = 1 + forms.iter().position(|&other| other == form).expect("a form of this kind");
         self.out.push(code as u8);
@@ -221,6 +224,10 @@ impl Writer {
                 let offset = offset(index, self.size);
                 self.uleb128(offset);
                 self.uleb128(offset + length);
+            }
+            FarPair => {
+                self.uleb128(index * STEP);
+                self.uleb128(index * STEP + length);
             }
             Default => {}
             Base => self.address(begin),
@@ -660,6 +667,71 @@ fn numbers(rows: &mut Rows<'_>) {
             Row { task: Task::Numbers, section, offset: 0, ..counted }
         });
     }
+}
+
+/// A list, and addresses that are looked up in one reading.
+pub struct Stack {
+    pub row: Row,
+    pub addresses: Vec<u64>,
+}
+
+/// Addresses in ascending order, spread over the ranges from 0 to `count`: half of them
+/// are held by a range, and the others stand between two.
+fn spread_over(count: u64, number: u64, begin: impl Fn(u64) -> u64, size: u8) -> Vec<u64> {
+    let mut addresses: Vec<u64> = (0..number)
+        .map(|at| {
+            let index = (2 * at + 1) * count / (2 * number);
+            let behind = begin(index) + STEP / 2;
+            if at % 2 == 1 { begin(index) + at % span(index, size).1 } else { behind + at }
+        })
+        .collect();
+    addresses.sort();
+    addresses
+}
+
+/// Long lists in ascending order and one in no order, and short ones.
+pub fn stacks(wanted: &dyn Fn(&str) -> bool) -> Vec<Stack> {
+    let mut lists = Vec::new();
+    for kind in [Kind::Ranges, Kind::Locations] {
+        let [end, length] = if kind == Kind::Ranges { ["6", "7"] } else { ["7", "8"] };
+        let forms = [("4", FarPair), (end, StartEnd), (length, StartLength), ("bare", BarePair)];
+        for (word, form) in forms {
+            for size in [4, 8] {
+                lists.push((word, form, Plan::new(kind, Pattern::All(form), size, false)));
+            }
+        }
+    }
+    let by_table = |&(word, form, plan): &(&'static str, Form, Plan)| {
+        let wanted = plan.kind == Kind::Ranges && plan.size == 8;
+        wanted.then_some((word, form, Plan { by_table: true, ..plan }))
+    };
+    lists.extend(lists.iter().filter_map(by_table).collect::<Vec<_>>());
+    let mut stacks = Vec::new();
+    for (word, form, plan) in lists {
+        let (kind, size) = (kind_word(plan.kind), plan.size);
+        let begin = |index| match form {
+            FarPair => BASE_ADDRESS + index * STEP,
+            _ => span(index, size).0,
+        };
+        for (order, count) in [("", 1000), ("random-", 1000), ("", 3)] {
+            if !order.is_empty() && (form != StartLength || size != 8) {
+                continue;
+            }
+            for number in [1, 8, 64] {
+                let by = plan.by();
+                let name = format!("{by}stack-{order}{kind}-{word}-{size}-little-{count}-{number}");
+                if !wanted(&name) {
+                    continue;
+                }
+                let ascending = order.is_empty();
+                let indexes = if ascending { (0..count).collect() } else { shuffled(count) };
+                let row = plan.row(name, indexes.into_iter());
+                let addresses = spread_over(count, number, begin, size);
+                stacks.push(Stack { row, addresses });
+            }
+        }
+    }
+    stacks
 }
 
 pub fn rows(wanted: &dyn Fn(&str) -> bool) -> Vec<Row> {

@@ -206,6 +206,15 @@ impl Writer<'_> {
 /// A list of many ranges, with entries that yield nothing between them, and
 /// now and then one that is refused at or near its end.
 pub fn list_case(r: &mut Random, sizes: &[u8]) -> ListCase {
+    list_case_of(r, sizes, how_many)
+}
+
+/// The same with so many ranges.
+pub fn list_case_of(
+    r: &mut Random,
+    sizes: &[u8],
+    how_many: impl FnOnce(&mut Random) -> usize,
+) -> ListCase {
     let address_size = r.pick(sizes);
     let mut list = ListCase {
         kind: r.pick(&generator::KINDS),

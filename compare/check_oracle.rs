@@ -85,6 +85,7 @@ fn main() {
     padded(&mut check);
     renumbered(&mut check);
     defaults(&mut check);
+    stacks(&mut check);
     open_points(&mut check);
     differences(&mut check);
     println!("{} examples, {} differ", check.run, check.wrong);
@@ -694,6 +695,71 @@ fn defaults(c: &mut Check) {
     same(Locations, 4, 1, "05 07 01 00 50 00 00", &bare);
 }
 
+/// gimli has no lookups of many addresses: these are single ones, and how many entries
+/// gimli's raw walk gives the longest.
+fn stacks(c: &mut Check) {
+    use Kind::{Locations, Ranges, SplitLocations};
+    let table = bytes(TABLE);
+    let not_there = Answer::End;
+    // Addresses, their answers, and how many entries are read.
+    let mut same = |kind, version, text: &str, stated: &[(&[u64], &[_], u64)]| {
+        let b = bytes(text);
+        let l = List { version, table: &table, table_base: 8, ..list(kind, &b) };
+        for &(addresses, answers, read) in stated {
+            let name = format!("{text}, lookups of {addresses:x?}");
+            c.same(&name, lookups(&l, addresses), (answers.to_vec(), read));
+        }
+    };
+
+    let (one, other, unknown) = (range(0x10, 0x20), range(0x30, 0x40), refused(3, 8));
+    for version in [5, 6] {
+        let stated: [(&[u64], &[_], u64); 9] = [
+            (&[], &[], 0),
+            (&[0x10], &[one], 1),
+            (&[0x10, 0x10, 0x1f], &[one; 3], 1),
+            (&[0x10, 0x35], &[one, other], 2),
+            (&[0x10, 0x20, 0x35], &[one, unknown, other], 2),
+            (&[0x20], &[unknown], 2),
+            (&[1; 64], &[unknown; 64], 2),
+            (&[0x30, 0x30], &[other; 2], 2),
+            (&[0x3f, 0x40, u64::MAX], &[other, unknown, unknown], 2),
+        ];
+        same(Ranges, version, "07 10 00 00 00 10 07 30 00 00 00 10 08", &stated);
+        same(Ranges, version, "07 10 00 00 00 10 07 30 00 00 00 10", &[(&[0x50], &[not_there], 2)]);
+        same(Ranges, version, "00", &[(&[5], &[not_there], 1), (&[], &[], 0)]);
+    }
+
+    let default = location(0, u64::MAX, 2, 1);
+    let bounded = location(0x10, 0x20, 0xd, 1);
+    let all: (&[u64], &[_], u64) =
+        (&[0, 0x10, 0x20, u64::MAX], &[default, bounded, default, not_there], 3);
+    let text = "05 01 50 07 10 00 00 00 20 00 00 00 01 51 00";
+    same(Locations, 5, text, &[all, (&[0x10, 0x1f], &[bounded; 2], 2)]);
+    let text = "05 01 50 07 10 00 00 00 20 00 00 00 01 51 09";
+    let (unknown, held) = (refused(4, 9), [bounded]);
+    same(Locations, 5, text, &[(&[0, 0x10], &[unknown, bounded], 2), (&[0x10], &held, 2)]);
+
+    // An entry whose address lookup fails was read.
+    let (failed, first) = (refused(1, 0), range(0x10, 0x18));
+    let text = "03 00 08 02 00 02 07 30 00 00 00 10 00";
+    same(Ranges, 5, text, &[(&[0x10, 0x30], &[first, failed], 2), (&[0x17], &[first], 1)]);
+    // The first of two entries that hold an address; base addresses are entries.
+    let text = "05 00 10 00 00 04 01 05 04 03 09 00";
+    let (low, high) = (range(0x1001, 0x1005), range(0x1003, 0x1009));
+    same(Ranges, 5, text, &[(&[0x1003, 0x1005, 0x1009], &[low, high, not_there], 4)]);
+    same(Ranges, 5, text, &[(&[0x1004, 0x1008], &[low, high], 3)]);
+    for version in [2, 3, 4] {
+        let (default, found) = (location(0, u64::MAX, 3, 1), location(0x10, 0x18, 0xc, 1));
+        let text = "05 01 00 50 03 00 08 00 00 00 01 00 51 00";
+        same(SplitLocations, version, text, &[(&[0, 0x10], &[default, found], 3)]);
+        let text = "10 00 00 00 20 00 00 00 00 00 00 00 00 00 00 00";
+        same(Ranges, version, text, &[(&[0x1f, 0x20], &[one, not_there], 2)]);
+    }
+
+    let past = List { offset: 2, ..list(Ranges, &[0]) };
+    c.same("00 at 2, lookups", lookups(&past, &[0, 1]), (vec![refused(1, 0); 2], 0));
+}
+
 fn open_points(c: &mut Check) {
     use Kind::*;
     let end = Answer::End;
@@ -798,6 +864,8 @@ fn differences(c: &mut Check) {
     let b = bytes("04 01 02 06 00 00 00 00 00 00");
     let l = List { address_size: 5, ..list(Ranges, &b) };
     c.same("size 5", walk(&l, 9), vec![range(1, 2), refused(6, 5), end]);
+    let l = List { address_size: 5, ..list(Ranges, &[0]) };
+    c.same("size 5, lookups", lookups(&l, &[1]), (vec![end], 1));
     // Size 3: the port reads it.
     let b = bytes("06 10 00 00 20 00 00 00");
     let l = List { address_size: 3, ..list(Ranges, &b) };

@@ -38,6 +38,30 @@ pub struct Noted {
     pub padded: bool,
 }
 
+/// How many addresses are looked up at most in one reading of a list.
+pub const MOST_ADDRESSES: usize = 64;
+
+/// An answer to one of them in words: the result and the refusal's number, its value,
+/// begin, end, and the expression's offset and length, 0 where there is none.
+pub type Told = [u64; 6];
+pub type Stack = [Told; MOST_ADDRESSES];
+
+pub fn in_words(found: Found) -> Told {
+    match found {
+        Answer::Entry(Yielded { begin, end, expression }) => {
+            let Place { offset, length } = expression.unwrap_or(Place { offset: 0, length: 0 });
+            [0, 0, begin, end, offset, length]
+        }
+        Answer::End => [3, 0, 0, 0, 0, 0],
+        Answer::Refused(refusal) => [refused_with(refusal.number), refusal.value, 0, 0, 0, 0],
+    }
+}
+
+/// The word of an answer that is refused.
+pub fn refused_with(number: u8) -> u64 {
+    4 + (u64::from(number) << 32)
+}
+
 /// The calls compared. Walks go in by value and come back.
 pub trait Port: Sync {
     fn open(&self, list: &List) -> Result<State, Refusal>;
@@ -45,6 +69,8 @@ pub trait Port: Sync {
     fn next_raw(&self, list: &List, walk: State) -> (Answer<Noted>, State);
     fn convert_raw(&self, list: &List, walk: State, entry: Raw) -> (Converted, State);
     fn lookup(&self, list: &List, address: u64) -> Found;
+    /// How many raw entries were read; `found` is whatever the call leaves there.
+    fn lookups(&self, list: &List, addresses: &[u64], found: &mut Stack) -> Result<u64, Refusal>;
 
     fn get_address(
         &self,
@@ -513,6 +539,41 @@ pub fn lookup(port: &impl Port, list: &List, address: u64, met: &mut Met) -> Res
         .map_err(|error| format!("{error}, of address {address:x}"))
 }
 
+/// Looks addresses up in one reading: how many entries were read, and all places, with
+/// one more before them and one behind. The numbers before and behind the addresses
+/// would descend.
+pub fn stack(
+    port: &impl Port,
+    list: &List,
+    addresses: &[u64],
+    fill: u64,
+    met: &mut Met,
+) -> Result<(), String> {
+    let word = |at: usize| fill.wrapping_add(at as u64);
+    let mut got: [Told; MOST_ADDRESSES + 2] =
+        std::array::from_fn(|row| std::array::from_fn(|at| word(6 * row + at)));
+    let mut after = got;
+    let due = measure::lookups(list, addresses).map(|(answers, entries)| {
+        for (place, answer) in after[1..].iter_mut().zip(answers) {
+            count_answer(met, "address", &answer);
+            *place = in_words(answer);
+        }
+        entries
+    });
+    let lent = [&[u64::MAX], addresses, &[0]].concat();
+    let found = got[1..=MOST_ADDRESSES].as_mut_array().expect("the places");
+    let read = port.lookups(list, &lent[1..=addresses.len()], found);
+    met.same("lookups", &due, &read)
+        .and_then(|()| match (0..got.len()).find(|&at| after[at] != got[at]) {
+            Some(at) => {
+                let (due, got) = (after[at], got[at]);
+                Err(format!("lookups: place {at}, from 1: oracle {due:x?}, port {got:x?}"))
+            }
+            None => Ok(()),
+        })
+        .map_err(|error| format!("{error}, of addresses {addresses:x?}"))
+}
+
 fn convert_one(
     port: &impl Port,
     list: &List,
@@ -613,10 +674,15 @@ fn table_walk(
     Ok(())
 }
 
-/// Walks one short list at size 1 as every kind, version 4 and 5, answers and
-/// counts. Byte order matters where lengths are two or four bytes. One base
-/// address is below the tombstone bound and lets sums wrap, one is at it.
+/// Walks one short list, answers and counts.
 pub fn short(port: &impl Port, bytes: &[u8], met: &mut Met) -> Result<(), String> {
+    short_lists(bytes).try_for_each(|list| answers(port, &list, met))
+}
+
+/// One short list at size 1 as every kind, version 4 and 5. Byte order matters
+/// where lengths are two or four bytes. One base address is below the tombstone
+/// bound and lets sums wrap, one is at it.
+pub fn short_lists(bytes: &[u8]) -> impl Iterator<Item = List<'_>> {
     let lists = [
         (Kind::Ranges, 4, false),
         (Kind::Ranges, 5, false),
@@ -627,24 +693,20 @@ pub fn short(port: &impl Port, bytes: &[u8], met: &mut Met) -> Result<(), String
         (Kind::SplitLocations, 4, true),
         (Kind::SplitLocations, 5, false),
     ];
-    let all = lists.iter().flat_map(|&list| [0xf8, 0xfe].map(|base| (list, base)));
-    for ((kind, version, big_endian), base_address) in all {
-        let list = List {
-            kind,
-            old: bytes,
-            new: bytes,
-            offset: 0,
-            version,
-            address_size: 1,
-            dwarf64: false,
-            big_endian,
-            base_address,
-            table: &[0x10, 0x18, 0xfe],
-            table_base: 0,
-        };
-        answers(port, &list, met)?;
-    }
-    Ok(())
+    let all = lists.into_iter().flat_map(|list| [0xf8, 0xfe].map(|base| (list, base)));
+    all.map(move |((kind, version, big_endian), base_address)| List {
+        kind,
+        old: bytes,
+        new: bytes,
+        offset: 0,
+        version,
+        address_size: 1,
+        dwarf64: false,
+        big_endian,
+        base_address,
+        table: &[0x10, 0x18, 0xfe],
+        table_base: 0,
+    })
 }
 
 /// `next` up to the end, answers and counts.

@@ -7,17 +7,20 @@
 //! the operands of an entry, a number for each seed, and a list for every fourth
 //! of them. Then comes address size 3: every short list, and for every fourth of
 //! the seeds a case, a list that gimli reads up to an address, and one that it
-//! reads with size 4. Last come tables of kind numbers: loaded ones, among them
+//! reads with size 4. Then come tables of kind numbers: loaded ones, among them
 //! every change of a byte of the fixed table; every short list by some; for each
 //! seed its cases about range lists by the fixed table, and a list by any; bare
 //! pairs by any table for every fourth, and a list of many ranges for every
-//! twentieth. A difference is printed, the last line has their number, and the
-//! exit status is 1 where there are any.
+//! twentieth. Last come lookups of many addresses in one reading: every short list,
+//! by tables and without, and for each seed a list, and one by a table. A difference
+//! is printed, the last line has their number, and the exit status is 1 where there
+//! are any.
 //!
-//!   differ [seeds [first seed]] [all] [model]
+//!   differ [seeds [first seed]] [all] [model] [parts=text]
 //!
 //! With `all`, every list or string of up to three bytes, else up to two. With
 //! `model`, the model of the scope stands in for the port, to try the comparison.
+//! With `parts=`, only the parts whose names contain the text.
 
 mod added;
 mod built;
@@ -29,14 +32,15 @@ mod measure;
 mod model;
 mod padded;
 mod port;
+mod stacks;
 mod three;
 
 use added::{Added, Tabled};
 use differ::Met;
 use generator::{READ, Random};
 use oracle::oracle_api::{self as gimli, Kind};
-use std::sync::Mutex;
 use std::sync::atomic::{AtomicU64, Ordering};
+use std::sync::{Mutex, OnceLock};
 use std::time::Instant;
 
 /// Runs `one` for every number below `count`, on all processors.
@@ -76,6 +80,9 @@ fn differences(number: u64) {
 /// A part of the comparison: `one` for every number below `count`. Prints what
 /// was met, and a line.
 fn part(count: u64, name: &str, one: impl Fn(u64, &mut Met) -> Result<(), String> + Sync) -> Met {
+    if !wanted(name) {
+        return Met::default();
+    }
     let start = Instant::now();
     let met = spread(count, one);
     for (name, count) in &met.names {
@@ -91,6 +98,13 @@ fn part(count: u64, name: &str, one: impl Fn(u64, &mut Met) -> Result<(), String
         println!("{} calls left out, none differs from the scope", met.left_out);
     }
     met
+}
+
+/// What the names of the parts have to contain.
+static PARTS: OnceLock<String> = OnceLock::new();
+
+fn wanted(name: &str) -> bool {
+    PARTS.get().is_none_or(|parts| name.contains(parts))
 }
 
 /// The default bases, all of them.
@@ -122,7 +136,9 @@ fn run<P: Tabled>(port: &P, seeds: u64, first: u64, all: bool) {
         let (bytes, length) = generator::short_list(index as u32);
         differ::short(port, &bytes[..length], met)
     });
-    total.calls += default_bases(port);
+    if wanted("default bases") {
+        total.calls += default_bases(port);
+    }
     total.join(part(generator::TABLE_HEADERS.into(), "table headers", |index, met| {
         let case = generator::table_header(index as u32);
         differ::tables(port, &case.section, case.big_endian, met)
@@ -209,11 +225,20 @@ fn run<P: Tabled>(port: &P, seeds: u64, first: u64, all: bool) {
         let (bytes, length) = generator::short_list(index as u32);
         kinds::short(port, &bytes[..length], met)
     }));
-    let parts: [(&str, Seeded<P>, u64); 4] = [
+    let name = "short lists, their borders in one reading";
+    total.join(part(short, name, |index, met| {
+        let (bytes, length) = generator::short_list(index as u32);
+        let mut lists = differ::short_lists(&bytes[..length]);
+        lists.try_for_each(|list| stacks::borders(port, &list, met))?;
+        kinds::short_stacks(port, &bytes[..length], met)
+    }));
+    let parts: [(&str, Seeded<P>, u64); 6] = [
         ("range lists by the fixed table", kinds::fixed, seeds),
         ("bare pairs by any table", kinds::bare, fourth),
         ("lists by any table", kinds::list, seeds),
         ("lists of many ranges by a table", kinds::many, seeds.div_ceil(20)),
+        ("lists, addresses in one reading", stacks::list, seeds),
+        ("lists by a table, addresses in one reading", kinds::stacks, seeds),
     ];
     for (name, one, count) in parts {
         total.join(part(count, &format!("{name}, from seed {first}"), |index, met| {
@@ -228,12 +253,15 @@ fn run<P: Tabled>(port: &P, seeds: u64, first: u64, all: bool) {
 fn main() {
     let (mut numbers, mut all, mut model) = (Vec::new(), false, false);
     for word in std::env::args().skip(1) {
+        if word.strip_prefix("parts=").is_some_and(|parts| PARTS.set(parts.into()).is_ok()) {
+            continue;
+        }
         match (word.as_str(), word.parse::<u64>()) {
             ("all", _) if !all => all = true,
             ("model", _) if !model => model = true,
             (_, Ok(number)) if numbers.len() < 2 && !all && !model => numbers.push(number),
             _ => {
-                eprintln!("differ [seeds [first seed]] [all] [model]: not {word}");
+                eprintln!("differ [seeds [first seed]] [all] [model] [parts=text]: not {word}");
                 std::process::exit(2);
             }
         }

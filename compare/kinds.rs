@@ -9,9 +9,9 @@ use generator::{Case, FIXED, ListCase, READ, Random, SIZES};
 use oracle::oracle_api::*;
 
 use crate::added::{self, Added, Kept, Marks, Tabled, Words, Wrote};
-use crate::differ::{self, Found, Met, Noted, Number, Port, list_of, walk_by_hand};
+use crate::differ::{self, Found, Met, Noted, Number, Port, Stack, list_of, walk_by_hand};
 use crate::model::{Model, NO_KIND, is_coded, kind_number};
-use crate::{built, marks, padded};
+use crate::{built, marks, padded, stacks};
 
 /// A list as it is, and the same renumbered from a place on.
 struct Renumbered<'a> {
@@ -115,6 +115,17 @@ impl<P: Tabled> Port for By<'_, P> {
         self.answer(self.port.lookup_by(&self.own(list), self.kinds, address))
     }
 
+    fn lookups(&self, list: &List, addresses: &[u64], found: &mut Stack) -> Wrote {
+        let read = self.port.lookups_by(&self.own(list), self.kinds, addresses, found);
+        let answered = if read.is_ok() { addresses.len() } else { 0 };
+        for [result, value, ..] in found.iter_mut().take(answered) {
+            if *result == differ::refused_with(3) {
+                *value = self.told(Refusal { number: 3, value: *value }).value;
+            }
+        }
+        self.wrote(read)
+    }
+
     passed_on! {
         convert_raw(list: &List, walk: State, entry: Raw) -> (Converted, State);
         get_address(t: &[u8], big: bool, size: u8, base: u64, index: u64) -> Result<u64, Refusal>;
@@ -213,10 +224,24 @@ pub fn tables(port: &impl Tabled, seed: u64, met: &mut Met) -> Result<(), String
     load(port, &table[..length], met)
 }
 
-/// Walks one short list at size 1, by the fixed table and by others: with the
-/// numbers the other way round, with every number at many codes, some of them with
-/// numbers that aren't kinds, and with ends that come early.
+/// Walks one short list by tables.
 pub fn short(port: &impl Tabled, bytes: &[u8], met: &mut Met) -> Result<(), String> {
+    short_by(port, bytes, |by, list| differ::answers(by, list, met))
+}
+
+/// Looks the borders of one short list up by tables.
+pub fn short_stacks(port: &impl Tabled, bytes: &[u8], met: &mut Met) -> Result<(), String> {
+    short_by(port, bytes, |by, list| stacks::borders(by, list, met))
+}
+
+/// One short list at size 1, by the fixed table and by others: with the numbers the
+/// other way round, with every number at many codes, some of them with numbers that
+/// aren't kinds, and with ends that come early.
+fn short_by<P: Tabled>(
+    port: &P,
+    bytes: &[u8],
+    mut one: impl FnMut(&By<P>, &List) -> Result<(), String>,
+) -> Result<(), String> {
     let turned: Vec<u8> = (0..=255).map(|code| if code < 8 { 7 - code } else { 0xff }).collect();
     let many: Vec<u8> = (0..=255).map(|code| code / 3 % 12).collect();
     let early = [0, 1, 13, 255].map(|length| &many[..length]);
@@ -238,7 +263,7 @@ pub fn short(port: &impl Tabled, bytes: &[u8], met: &mut Met) -> Result<(), Stri
             };
             let renumbered = &Renumbered::new(&list, kinds, 0);
             let by = By { port, kinds, renumbered: Some(renumbered) };
-            differ::answers(&by, &renumbered.list(&list), met)?;
+            one(&by, &renumbered.list(&list))?;
         }
     }
     Ok(())
@@ -294,26 +319,56 @@ fn recoded(r: &mut Random, list: &List, kinds: &[u8]) -> Vec<u8> {
 const KINDS: u64 = 0x6b696e6473;
 
 /// A list and a table of any sort: all calls from its offset, and calls on walks made
-/// by hand. The list has the table's codes, or the fixed ones, or it is any bytes.
+/// by hand.
 pub fn list(port: &impl Tabled, seed: u64, met: &mut Met) -> Result<(), String> {
     let r = &mut Random::new(seed ^ KINDS);
-    let mut case = generator::range_list(r, &READ, false);
-    let kinds = &generator::any_table(r, &case.new);
-    met.met(format!("table: {}", sort(kinds)));
+    let case = generator::range_list(r, &READ, false);
+    let (case, kinds) = &with_table(r, case, met);
+    all(port, &list_of(case), kinds, seed, met)
+        .map_err(|error| format!("{error}\n{case:x?}\nby {kinds:x?}"))
+}
+
+/// A list of entries with kinds, and a table. The list has the table's codes, or the
+/// fixed ones, or it is any bytes.
+fn with_table(r: &mut Random, mut case: ListCase, met: &mut Met) -> (ListCase, Vec<u8>) {
+    let kinds = generator::any_table(r, &case.new);
+    met.met(format!("table: {}", sort(&kinds)));
     match r.below(8) {
         0 => met.met("list as it is".into()),
         1 => {
             met.met("list of any bytes".into());
-            let codes: Vec<u8> = (0..8).flat_map(|kind| codes_of(kinds, kind)).collect();
+            let codes: Vec<u8> = (0..8).flat_map(|kind| codes_of(&kinds, kind)).collect();
             case.new = generator::bytes_of(r, if codes.is_empty() { &[0] } else { &codes });
             case.offset = r.below(1 + case.new.len() as u64 / 2);
         }
         _ => {
             met.met("list with the table's codes".into());
-            case.new = recoded(r, &list_of(&case), kinds);
+            case.new = recoded(r, &list_of(&case), &kinds);
         }
     }
-    all(port, &list_of(&case), kinds, seed, met)
+    (case, kinds)
+}
+
+/// Stacks of addresses in a list by a table: any, and of many ranges; and in bare pairs
+/// by any table.
+pub fn stacks(port: &impl Tabled, seed: u64, met: &mut Met) -> Result<(), String> {
+    let r = &mut Random::new(seed ^ KINDS ^ !0);
+    let case = match r.below(8) {
+        0 => generator::range_list(r, &READ, true),
+        1..=4 => generator::range_list(r, &READ, false),
+        _ => stacks::many_ranges(r, &[generator::Kind::Ranges]),
+    };
+    let (mut case, kinds) = if case.version > 4 {
+        with_table(r, case, met)
+    } else {
+        let kinds = generator::any_table(r, &case.old);
+        (case, kinds)
+    };
+    stacks::spoil(r, &mut case);
+    let list = &list_of(&case);
+    let renumbered = &Renumbered::new(list, &kinds, list.offset);
+    let by = By { port, kinds: &kinds, renumbered: Some(renumbered) };
+    stacks::some(&by, &renumbered.list(list), r, met)
         .map_err(|error| format!("{error}\n{case:x?}\nby {kinds:x?}"))
 }
 

@@ -3,7 +3,7 @@
 //! numbers and raw entries gimli tells no padding: that is the model's, which has
 //! to read the same number or entry there.
 
-use crate::differ::{Found, Noted, Number, Port};
+use crate::differ::{Found, MOST_ADDRESSES, Noted, Number, Port};
 use crate::model::{self, Model};
 use generator::SIZES;
 use oracle::oracle_api::{self as gimli, *};
@@ -34,6 +34,19 @@ pub fn lookup(list: &List, address: u64) -> Found {
     } else {
         Model.lookup(list, address)
     }
+}
+
+/// Single lookups, and how many raw entries the longest of them reads; or the refusal
+/// of addresses that are too many or descend.
+pub fn lookups(list: &List, addresses: &[u64]) -> Result<(Vec<Found>, u64), Refusal> {
+    if addresses.len() > MOST_ADDRESSES {
+        return Err(Refusal { number: 20, value: 0 });
+    }
+    if addresses.windows(2).any(|pair| pair[0] > pair[1]) {
+        return Err(Refusal { number: 21, value: 0 });
+    }
+    let by_gimli = gimli_reads(list.address_size);
+    Ok(if by_gimli { gimli::lookups(list, addresses) } else { Model.seen(list, None, addresses) })
 }
 
 /// gimli's entry at a place of a list, with the model's padding.

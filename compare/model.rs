@@ -3,7 +3,7 @@
 //! Slow and short; it shares nothing with gimli's code.
 
 use crate::added::{self, Added, Kept, MOST, Marks, Ranges, Tabled, Words, Wrote};
-use crate::differ::{Found, Noted, Number, Port};
+use crate::differ::{Found, MOST_ADDRESSES, Noted, Number, Port, Stack, in_words};
 use oracle::oracle_api::{
     Answer, Converted, Form, Kind, List, Lists, Place, Raw, Refusal, State, Table, Yielded,
 };
@@ -336,11 +336,12 @@ impl Model {
 
     /// All that is yielded up to the first refusal or the end, each by whether it is a
     /// default; then the first bounded one that holds the address. Without one a refusal
-    /// is the answer, and then the first default, which holds all but 2^64 - 1.
-    fn lookup_in(&self, list: &List, kinds: Numbers, address: u64) -> Found {
+    /// is the answer, and then the first default, which holds all but 2^64 - 1. With the
+    /// answer comes how many entries were read for it.
+    fn lookup_in(&self, list: &List, kinds: Numbers, address: u64) -> (Found, u64) {
         let mut walk = match self.open(list) {
             Ok(walk) => walk,
-            Err(refusal) => return Answer::Refused(refusal),
+            Err(refusal) => return (Answer::Refused(refusal), 0),
         };
         let (mut bounded, mut defaults) = (Vec::new(), Vec::new());
         let refused = loop {
@@ -349,19 +350,46 @@ impl Model {
             match step {
                 Answer::Entry((_, Converted::Nothing)) => {}
                 Answer::Entry((Form::Default, Converted::Entry(entry))) => defaults.push(entry),
-                Answer::Entry((_, Converted::Entry(entry))) => bounded.push(entry),
+                Answer::Entry((_, Converted::Entry(entry))) => bounded.push((entry, walk.entries)),
                 Answer::Entry((_, Converted::Refused(refusal))) => break Some(refusal),
                 Answer::End => break None,
                 Answer::Refused(refusal) => break Some(refusal),
             }
         };
-        let held = bounded.into_iter().find(|entry| (entry.begin..entry.end).contains(&address));
-        match (held, refused, defaults.first()) {
-            (Some(entry), _, _) => Answer::Entry(entry),
-            (None, Some(refusal), _) => Answer::Refused(refusal),
-            (None, None, Some(entry)) if address < u64::MAX => Answer::Entry(*entry),
-            (None, None, _) => Answer::End,
+        let holds = |(entry, _): &(Yielded, u64)| (entry.begin..entry.end).contains(&address);
+        match (bounded.into_iter().find(holds), refused, defaults.first()) {
+            (Some((entry, entries)), _, _) => (Answer::Entry(entry), entries),
+            (None, Some(refusal), _) => (Answer::Refused(refusal), walk.entries),
+            (None, None, Some(entry)) if address < u64::MAX => {
+                (Answer::Entry(*entry), walk.entries)
+            }
+            (None, None, _) => (Answer::End, walk.entries),
         }
+    }
+
+    /// Single lookups, and the most entries that one of them reads.
+    pub fn seen(&self, list: &List, kinds: Numbers, addresses: &[u64]) -> (Vec<Found>, u64) {
+        let seen = addresses.iter().map(|&address| self.lookup_in(list, kinds, address));
+        let (answers, entries): (Vec<Found>, Vec<u64>) = seen.unzip();
+        (answers, entries.into_iter().max().unwrap_or(0))
+    }
+
+    fn lookups_in(
+        &self,
+        list: &List,
+        kinds: Numbers,
+        addresses: &[u64],
+        found: &mut Stack,
+    ) -> Got<u64> {
+        if addresses.len() > MOST_ADDRESSES {
+            return no(20, 0);
+        }
+        if !addresses.is_sorted() {
+            return no(21, 0);
+        }
+        let (answers, entries) = self.seen(list, kinds, addresses);
+        found.iter_mut().zip(answers).for_each(|(place, answer)| *place = in_words(answer));
+        Ok(entries)
     }
 
     fn next_raw_in(&self, list: &List, kinds: Numbers, walk: State) -> (Answer<Noted>, State) {
@@ -413,7 +441,11 @@ impl Port for Model {
     }
 
     fn lookup(&self, list: &List, address: u64) -> Found {
-        self.lookup_in(list, None, address)
+        self.lookup_in(list, None, address).0
+    }
+
+    fn lookups(&self, list: &List, addresses: &[u64], found: &mut Stack) -> Got<u64> {
+        self.lookups_in(list, None, addresses, found)
     }
 
     fn get_address(&self, table: &[u8], big: bool, size: u8, base: u64, index: u64) -> Got<u64> {
@@ -663,7 +695,17 @@ impl Tabled for Model {
     }
 
     fn lookup_by(&self, list: &List, kinds: &[u8], address: u64) -> Found {
-        self.lookup_in(list, Some(kinds), address)
+        self.lookup_in(list, Some(kinds), address).0
+    }
+
+    fn lookups_by(
+        &self,
+        list: &List,
+        kinds: &[u8],
+        addresses: &[u64],
+        found: &mut Stack,
+    ) -> Got<u64> {
+        self.lookups_in(list, Some(kinds), addresses, found)
     }
 
     fn coverage_by(&self, list: &List, kinds: &[u8], kept: &mut Kept) -> Wrote {

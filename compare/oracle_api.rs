@@ -626,26 +626,56 @@ pub fn walk_raw(list: &List<'_>, most: usize) -> Vec<Answer<Raw>> {
 /// location as a range like any other: the raw entry tells it from one with the
 /// same bounds.
 pub fn lookup(list: &List<'_>, address: u64) -> Answer<Yielded> {
-    let mut walk = match Walk::open(list) {
-        Ok(walk) => walk,
-        Err(refusal) => return Answer::Refused(refusal),
-    };
-    let mut default = Answer::End;
-    loop {
-        match walk.step() {
-            Answer::Entry((form, Converted::Entry(entry))) if entry.holds(address) => {
-                if form != Form::Default {
-                    return Answer::Entry(entry);
-                }
-                if default == Answer::End {
-                    default = Answer::Entry(entry);
-                }
+    Seen::new(list, address).answer
+}
+
+/// Single lookups, and how many raw entries the longest of them reads.
+pub fn lookups(list: &List<'_>, addresses: &[u64]) -> (Vec<Answer<Yielded>>, u64) {
+    let (mut answers, mut longest, mark) = (Vec::new(), 0, u64::from(marked(list)));
+    for &address in addresses {
+        let seen = Seen::new(list, address);
+        answers.push(seen.answer);
+        longest = longest.max(seen.entries + if seen.ended { mark } else { 0 });
+    }
+    (answers, longest)
+}
+
+/// A lookup's answer, how many raw entries gimli's raw walk gives it, and whether it
+/// comes to the list's end.
+struct Seen {
+    answer: Answer<Yielded>,
+    entries: u64,
+    ended: bool,
+}
+
+impl Seen {
+    fn new(list: &List<'_>, address: u64) -> Seen {
+        let mut walk = match Walk::open(list) {
+            Ok(walk) => walk,
+            Err(refusal) => {
+                return Seen { answer: Answer::Refused(refusal), entries: 0, ended: false };
             }
-            Answer::Entry((_, Converted::Refused(refusal))) | Answer::Refused(refusal) => {
-                return Answer::Refused(refusal);
-            }
-            Answer::Entry(_) => {}
-            Answer::End => return default,
+        };
+        let (mut default, mut entries) = (Answer::End, 0);
+        loop {
+            let step = walk.step();
+            entries += u64::from(matches!(step, Answer::Entry(_)));
+            let answer = match step {
+                Answer::Entry((form, Converted::Entry(entry))) if entry.holds(address) => {
+                    let found = Answer::Entry(entry);
+                    if form == Form::Default {
+                        default = if default == Answer::End { found } else { default };
+                        continue;
+                    }
+                    found
+                }
+                Answer::Entry((_, Converted::Refused(refusal))) | Answer::Refused(refusal) => {
+                    Answer::Refused(refusal)
+                }
+                Answer::Entry(_) => continue,
+                Answer::End => default,
+            };
+            return Seen { answer, entries, ended: step == Answer::End };
         }
     }
 }

@@ -7,7 +7,7 @@
 mod ffi;
 
 use crate::added::{Added, Kept, Marks, Tabled, Words, Wrote};
-use crate::differ::{Found, Noted, Number, Port};
+use crate::differ::{Found, Noted, Number, Port, Stack};
 pub use ffi::LIMIT;
 use ffi::*;
 use oracle::oracle_api::{
@@ -170,6 +170,12 @@ fn flag(word: u64) -> bool {
     word == 1
 }
 
+/// The places of answers as the words that they are.
+fn lent_places(found: &mut Stack) -> &mut ffi::Found {
+    const { assert!(size_of::<Stack>() == size_of::<ffi::Found>()) };
+    unsafe { &mut *(found as *mut Stack).cast() }
+}
+
 fn noted_range(RawRange { entry, padded }: RawRange) -> Noted {
     Noted { entry: raw_range(entry), padded: flag(padded) }
 }
@@ -259,6 +265,19 @@ impl Port for Ffi {
         let found =
             unsafe { yz_location_lookup(s, n, t, m, base, encoding, file_type, at, low, address) };
         answer(found, NOT_THERE, |found| location_in(section(list), found))
+    }
+
+    fn lookups(&self, list: &List, addresses: &[u64], found: &mut Stack) -> Result<u64, Refusal> {
+        let (s, n, t, m) = lent(list);
+        let (base, encoding) = (list.table_base, encoding(list));
+        let (at, low) = (list.offset, list.base_address);
+        let (a, l, found) = (addresses.as_ptr(), addresses.len(), lent_places(found));
+        wrote(if list.kind == Kind::Ranges {
+            unsafe { yz_range_lookups(s, n, t, m, base, encoding, at, low, a, l, found) }
+        } else {
+            let file = file_type(list);
+            unsafe { yz_location_lookups(s, n, t, m, base, encoding, file, at, low, a, l, found) }
+        })
     }
 
     fn get_address(
@@ -539,6 +558,22 @@ impl Tabled for Ffi {
         let found =
             unsafe { yz_range_lookup_by(s, n, t, m, base, encoding, at, low, k, l, address) };
         answer(found, NOT_THERE, range)
+    }
+
+    fn lookups_by(
+        &self,
+        list: &List,
+        kinds: &[u8],
+        addresses: &[u64],
+        found: &mut Stack,
+    ) -> Result<u64, Refusal> {
+        let (s, n, t, m) = lent(list);
+        let (base, encoding, k, l) = (list.table_base, encoding(list), kinds.as_ptr(), kinds.len());
+        let (at, low) = (list.offset, list.base_address);
+        let (a, o, found) = (addresses.as_ptr(), addresses.len(), lent_places(found));
+        wrote(unsafe {
+            yz_range_lookups_by(s, n, t, m, base, encoding, at, low, k, l, a, o, found)
+        })
     }
 
     fn coverage_by(&self, list: &List, kinds: &[u8], kept: &mut Kept) -> Wrote {

@@ -279,8 +279,12 @@ impl<'a> Section<'a> {
 
     /// Coverage, sheet and canonical list, beside the plain version.
     fn added(&mut self, port: &impl Added, list: &List) {
+        self.compared(|met| added::list(port, list, &mut Random::new(list.offset), false, met));
+    }
+
+    fn compared(&mut self, compare: impl FnOnce(&mut Met) -> Result<(), String>) {
         let mut met = Met::default();
-        let answer = added::list(port, list, &mut Random::new(list.offset), false, &mut met);
+        let answer = compare(&mut met);
         self.row.calls += met.calls;
         if let Err(error) = answer {
             self.row.differences += 1;
@@ -288,13 +292,20 @@ impl<'a> Section<'a> {
         }
     }
 
-    /// The bounds of each range that is yielded, looked up.
+    /// The bounds of each range that is yielded, looked up one by one; then with 0 and
+    /// 2^64 - 1 as many in one reading as may be.
     fn lookups(&mut self, port: &impl Port, list: &List, walked: &Walked) {
+        let mut borders = vec![0, u64::MAX];
         for entry in &walked.yielded {
             for address in [entry.begin, entry.end - 1, entry.end] {
                 let oracle = gimli::lookup(list, address);
                 self.row.same("lookup", &oracle, &port.lookup(list, address));
+                borders.push(address);
             }
+        }
+        borders.sort();
+        for stack in borders.chunks(differ::MOST_ADDRESSES) {
+            self.compared(|met| differ::stack(port, list, stack, list.offset, met));
         }
     }
 
