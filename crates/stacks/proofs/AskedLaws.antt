@@ -6,7 +6,7 @@ use mathlib.Core.List.{List, [], _∷_, map}
 use mathlib.Core.Path.{_≡_, refl, sym, ap, _∙_, subst}
 use lib.Dec.{ltb}
 use lib.ListN.{length, take, drop, replicate}
-use lib.Seq.{sets, sets-eq, length-sets, take-append-seam}
+use lib.Seq.{sets, sets-eq, take-append-seam}
 use borrow.Author.Tests.{lt-ltb, le-ltb}
 use Rattle.bytes.specs.Read.{Result, gives, refused, andThen, pick}
 use Rattle.bytes.specs.Error.{refusal}
@@ -21,13 +21,12 @@ use Rattle.lists.specs.declared.Walk.{Walk}
 use Rattle.lists.proofs.OpenLaws.{opened-as}
 use Rattle.lookups.specs.Lookup.{Found}
 use Rattle.stacks.specs.Ascending.{ascends}
-use Rattle.stacks.specs.Stack.{checked, readFrom, longest, locationRow, Answers, answers, onChecked, together}
+use Rattle.stacks.specs.Stack.{checked, readFrom, longest, locationRow, answers, onChecked, together}
 use Rattle.stacks.specs.Either.{lookupFrom, rowIn, stopsFrom, togetherIn, givenTo}
 use Rattle.stacks.specs.Places.{at, padded, Standing, Filled}
 use Rattle.stacks.proofs.GoingLaws as going
 use Rattle.stacks.proofs.GoingLaws.{Finished}
 use Rattle.stacks.proofs.PlaceLaws.{padded-in, padded-behind, padded-ascending}
-use Rattle.stacks.proofs.SettleLaws.{fill-until}
 
 module _ (row : ℕ → List ℕ) (reads : ℕ → ℕ) (l : List ℕ) (rows : List (List ℕ)) where
   tests : (t u : Bool) → ltb 64 (length l) ≡ t → ascends l ≡ u

@@ -2,7 +2,7 @@
 use Prim.Native.Nat.{ℕ}
 use mathlib.Core.Bool.{Bool, true, false}
 use mathlib.Core.Path.{_≡_, sym, ap, _∙_}
-use Rattle.bytes.specs.Read.{Result, gives, refused, pick}
+use Rattle.bytes.specs.Read.{Result, gives, pick}
 use Rattle.bytes.specs.Error.{refusal}
 use Rattle.bytes.specs.declared.error.Error.{Error}
 use Rattle.entries.specs.declared.Expression.{Expression}

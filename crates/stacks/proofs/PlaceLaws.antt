@@ -5,15 +5,15 @@ use native.Mathlib.Numerals.{add-one}
 use mathlib.Core.Bool.{Bool, true, false, _&&_}
 use mathlib.Core.List.{List, [], _∷_}
 use mathlib.Core.Logic.{_⊎_, inl, inr, ⊎-elim}
-use mathlib.Core.Path.{_≡_, refl, sym, ap, _∙_, subst}
+use mathlib.Core.Path.{_≡_, refl, sym, ap, _∙_}
 use lib.Dec.{leb, ltb}
-use lib.ListN.{length, getD, set, drop, replicate, length-set, length-drop, length-replicate, getD-replicate}
-use lib.Seq.{sets, drop-cons, drop-length, getD-set-same, getD-set-other, length-sets}
+use lib.ListN.{length, set, drop, replicate, length-set, length-drop, getD-replicate}
+use lib.Seq.{sets, drop-cons, drop-length, getD-set-same, getD-set-other}
 use borrow.Author.Tests.{le-leb, lt-leb, leb-true, lt-ltb, le-ltb}
 use Rattle.bytes.specs.Read.{pick}
 use Rattle.bytes.proofs.Order.{lt-or-le}
 use Rattle.stacks.specs.Ascending.{ascends}
-use Rattle.stacks.specs.Places.{at, Ascending, padded, Less, FirstAt, Between, Done, Hops, WaitingFrom}
+use Rattle.stacks.specs.Places.{at, Ascending, padded, Less, FirstAt, Between, Done, Hops}
 
 pub same-or-not : (m i : ℕ) → (m ≡ i) ⊎ (m ≡ i → ⊥)
 same-or-not m i = ⊎-elim (λ h. inr (λ e. omega arith)) (λ h. ⊎-elim (λ k. inr (λ e. omega arith)) (λ k. inl (omega arith)) (lt-or-le i m)) (lt-or-le m i)

@@ -1,21 +1,20 @@
 -- One entry after the other, for all addresses at once: what each lookup has still to answer, and where it will stop. Assumes nothing.
-use Prim.Native.Nat.{ℕ, suc, _+_, _-_, _^_, _≤_, _<_}
+use Prim.Native.Nat.{ℕ, _+_, _-_, _^_, _≤_, _<_}
 use native.Mathlib.Omega.{arith}
 use mathlib.Core.Bool.{Bool, true, false, _&&_}
 use mathlib.Core.List.{List, [], _∷_}
-use mathlib.Core.Logic.{_⊎_, inl, inr, ⊎-elim}
+use mathlib.Core.Logic.{_⊎_, inl, inr}
 use mathlib.Core.Path.{_≡_, refl, sym, ap, _∙_, subst}
-use lib.Dec.{leb, ltb}
+use lib.Dec.{leb}
 use lib.ListN.{length, replicate}
 use borrow.Author.Tests.{le-leb, lt-leb, lt-ltb, le-ltb}
 use Rattle.bytes.specs.Read.{Result, gives, refused, got, Read, pick}
 use Rattle.bytes.specs.declared.common.DebugAddrBase.{DebugAddrBase}
 use Rattle.bytes.specs.declared.common.Encoding.{Encoding}
 use Rattle.bytes.specs.declared.endianity.RunTimeEndian.{RunTimeEndian}
-use Rattle.bytes.proofs.Order.{lt-or-le}
 use Rattle.entries.specs.Forms.{Raw, stop, entry}
 use Rattle.entries.specs.Listed.{EntryIn, readIn, noExpression}
-use Rattle.entries.specs.Numbers.{Coding, dwarf}
+use Rattle.entries.specs.Numbers.{Coding}
 use Rattle.entries.specs.declared.Expression.{Expression}
 use Rattle.lists.specs.Open.{walkAt, oneMore}
 use Rattle.lists.specs.Convert.{Turn, range, rebase, skip, convert, tableAt}

@@ -17,9 +17,9 @@ use Rattle.entries.specs.Numbers.{Coding, dwarf, tabled}
 use Rattle.entries.specs.declared.Expression.{Expression}
 use Rattle.lists.specs.Open.{opened}
 use Rattle.lists.specs.Convert.{tableAt}
-use Rattle.lists.specs.Walk.{CarriedIn, listed, trace}
+use Rattle.lists.specs.Walk.{listed, trace}
 use Rattle.lists.specs.declared.Walk.{Walk}
-use Rattle.lookups.specs.Lookup.{Found, foundCarrying, stopsAt, only, isBounded, locationsFrom, lookupRangeIn, lookupRange, lookupRangeBy, lookupLocation}
+use Rattle.lookups.specs.Lookup.{Found, foundCarrying, stopsAt, only, isBounded, locationsFrom, lookupRangeIn, lookupLocation}
 use Rattle.ffi_words.specs.Coverages.{countWritten}
 use Rattle.ffi_words.specs.Locations.{locationFound}
 use Rattle.ffi_words.specs.declared.coverages.YzCount.{YzCount}
