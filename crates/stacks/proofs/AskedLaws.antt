@@ -24,6 +24,7 @@ use Rattle.stacks.specs.Ascending.{ascends}
 use Rattle.stacks.specs.Stack.{checked, readFrom, longest, locationRow, answers, onChecked, together}
 use Rattle.stacks.specs.Either.{lookupFrom, rowIn, stopsFrom, togetherIn, givenTo}
 use Rattle.stacks.specs.Places.{at, padded, Standing, Filled}
+use Rattle.stacks.proofs.GivenLaws.{row-refused}
 use Rattle.stacks.proofs.GoingLaws as going
 use Rattle.stacks.proofs.GoingLaws.{Finished}
 use Rattle.stacks.proofs.PlaceLaws.{padded-in, padded-behind, padded-ascending}
@@ -71,10 +72,6 @@ module _ (l : Bool) (coding : Coding) (encoding : Encoding) (endian : RunTimeEnd
 
   abbrev reads : ℕ → ℕ
   reads x = readFrom (opened encoding s offset base) (stopsFrom l coding encoding endian s table tableBase x)
-
-  row-refused : (n : ℕ) (vs : List ℕ) (m : Bool) → locationRow (refused n vs) ≡ rowIn m (refused n vs)
-  row-refused n vs true = refl
-  row-refused n vs false = refl
 
   -- what refuses the opening is the answer of each
   pub not-opened : {n : ℕ} {vs : List ℕ} {a : List ℕ} {rows' : List (List ℕ)} → opened encoding s offset base ≡ refused n vs → Standing asked a → 0 < length asked → true ≡ ascends asked

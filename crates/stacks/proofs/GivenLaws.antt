@@ -1,8 +1,9 @@
 -- What an address gets of an answer of the code that is given where the reading ends. Assumes nothing.
 use Prim.Native.Nat.{ℕ}
 use mathlib.Core.Bool.{Bool, true, false}
-use mathlib.Core.Path.{_≡_, sym, ap, _∙_}
-use Rattle.bytes.specs.Read.{Result, gives, pick}
+use mathlib.Core.List.{List}
+use mathlib.Core.Path.{_≡_, refl, sym, ap, _∙_}
+use Rattle.bytes.specs.Read.{Result, gives, refused, pick}
 use Rattle.bytes.specs.Error.{refusal}
 use Rattle.bytes.specs.declared.error.Error.{Error}
 use Rattle.entries.specs.declared.Expression.{Expression}
@@ -11,7 +12,8 @@ use Rattle.lists.specs.declared.LocationListEntry.{LocationListEntry}
 use Rattle.lookups.specs.Lookup.{Found, found, notThere, holds, toldLocationFound}
 use Rattle.lookups.specs.declared.LocationFound.{LocationFound}
 use Rattle.lookups.specs.declared.LocationFound.the-variants as location
-use Rattle.stacks.specs.Either.{givenTo}
+use Rattle.stacks.specs.Stack.{locationRow}
+use Rattle.stacks.specs.Either.{rowIn, givenTo}
 
 module _ (a : ℕ) {r : LocationFound} where
   module _ {x : LocationListEntry} (q : r ≡ location.Found x) where
@@ -26,3 +28,8 @@ module _ (a : ℕ) {r : LocationFound} where
 
   pub given-refused : {e : Error} → r ≡ location.Refused e → refusal e ≡ givenTo a (toldLocationFound r)
   given-refused q = sym (ap (λ (y : LocationFound). givenTo a (toldLocationFound y)) q)
+
+-- a refusal has the same words in both lists
+pub row-refused : (n : ℕ) (vs : List ℕ) (l : Bool) → locationRow (refused n vs) ≡ rowIn l (refused n vs)
+row-refused n vs true = refl
+row-refused n vs false = refl

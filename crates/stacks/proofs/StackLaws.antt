@@ -29,6 +29,7 @@ use Rattle.lookups.proofs.ReadLaws.{stops, stops-held, stops-not-held, stops-de
 use Rattle.stacks.specs.Stack.{locationRow}
 use Rattle.stacks.specs.Either.{lookupFrom, rowIn, stopsFrom, givenTo}
 use Rattle.stacks.specs.Places.{at, Standing, WaitingFrom, Settled, Filled}
+use Rattle.stacks.proofs.GivenLaws.{row-refused}
 use Rattle.stacks.proofs.GoingLaws as going
 use Rattle.stacks.proofs.GoingLaws.{Going, Finished, Missed}
 
@@ -218,24 +219,20 @@ module _ (l : Bool) (coding : Coding) (encoding : Encoding) (endian : RunTimeEnd
             loop-all k = going.found-all (rowIn l) wanted reads asked a rows₀ st (h .goes) b e (read + 1) (gives (found (item b e (dataIn l x)))) row (leftOf kept c base (read + 1)) (readingOf c base (read + 1)) (omega arith) top (is ∙ row-is l) held others-now u w k
 
         -- a refusal is what all that wait are given
-        given-refusal : (n : ℕ) (vs : List ℕ) (m : Bool) → locationRow (refused n vs) ≡ rowIn m (refused n vs)
-        given-refusal n vs true = refl
-        given-refusal n vs false = refl
-
         pub loop-failed : {n : ℕ} {vs : List ℕ} {c : ℕ} {rows' : List (List ℕ)} → Met (gives (fails n vs c)) → Filled (λ x. locationRow (givenTo x (refused n vs))) a (length asked) next rows rows' → End (read + 1) rows'
         loop-failed {n} {vs} {c} {rows'} q f =
             let p = step-ahead l coding encoding endian s table tableBase here base q in
             going.at-end (rowIn l) wanted reads asked a rows₀ st (h .goes) (read + 1) (λ x. refused n vs) rows'
             (λ x. step-failed l coding encoding endian s table tableBase x (givenTo x (foundIn l kept)) here base read q)
             (λ x. ap (λ (w : Walk). w .entries) (stops-refusal x (failed-as l coding encoding endian s table tableBase here base read q)) ∙ one (p .0) (p .1))
-            (omega arith) (subst (λ (g : List ℕ). Filled (λ x. g) a (length asked) next rows rows') (given-refusal n vs l) f)
+            (omega arith) (subst (λ (g : List ℕ). Filled (λ x. g) a (length asked) next rows rows') (row-refused n vs l) f)
 
         pub loop-refused : {n : ℕ} {vs : List ℕ} {rows' : List (List ℕ)} → Met (refused n vs) → Filled (λ x. locationRow (givenTo x (refused n vs))) a (length asked) next rows rows' → End read rows'
         loop-refused {n} {vs} {rows'} q f =
             going.at-end (rowIn l) wanted reads asked a rows₀ st (h .goes) read (λ x. refused n vs) rows'
             (λ x. step-refused l coding encoding endian s table tableBase x (givenTo x (foundIn l kept)) here base read q)
             (λ x. ap (λ (w : Walk). w .entries) (stops-refusal x (refused-as l coding encoding endian s table tableBase here base read q)))
-            (omega arith) (subst (λ (g : List ℕ). Filled (λ x. g) a (length asked) next rows rows') (given-refusal n vs l) f)
+            (omega arith) (subst (λ (g : List ℕ). Filled (λ x. g) a (length asked) next rows rows') (row-refused n vs l) f)
 
         -- at the end of the list it is the default location, or nothing
         kept-filled : {rows' : List (List ℕ)} → Filled (λ x. locationRow (givenTo x kept)) a (length asked) next rows rows' → Filled (λ x. rowIn l (givenTo x (foundIn l kept))) a (length asked) next rows rows'
