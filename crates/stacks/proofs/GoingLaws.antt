@@ -2,14 +2,14 @@
 -- however many entries each lookup reads. Assumes nothing.
 use Prim.Native.Nat.{ℕ, zero, suc, _+_, _-_, _^_, _≤_, _<_}
 use native.Mathlib.Omega.{arith}
-use mathlib.Core.Bool.{Bool, true, false, _&&_}
+use mathlib.Core.Bool.{Bool}
 use mathlib.Core.List.{List, [], _∷_, map}
 use mathlib.Core.Logic.{_⊎_, inl, inr, ⊎-elim}
 use mathlib.Core.Path.{_≡_, refl, sym, ap, _∙_, subst}
-use lib.Dec.{leb, ltb, eqb}
+use lib.Dec.{ltb, eqb}
 use lib.ListN.{length, getD, replicate, length-map, length-replicate, getD-replicate, List·getD-map, List·getD-eq-default}
 use lib.Seq.{sets}
-use borrow.Author.Tests.{ne-eqb, lt-ltb, ltb-true, leb-true}
+use borrow.Author.Tests.{ne-eqb, lt-ltb}
 use Rattle.bytes.specs.Read.{pick}
 use Rattle.bytes.proofs.Order.{lt-or-le}
 use Rattle.stacks.specs.Places.{at, Ascending, Standing, FirstAt, Waits, Done, Hops, WaitingFrom, Laid, Kept, Answered, Settled, Filled}
@@ -39,13 +39,6 @@ waiting-until {next} {low} {n} {n'} {r} h e = subst (λ (k : ℕ). WaitingFrom n
 -- no address of the range is one of them
 abbrev pub Missed : List ℕ → ℕ → ℕ → Type 0
 Missed a b e = (m : ℕ) → m < 64 → (at a m < b) ⊎ (e ≤ at a m)
-
-pub missed-test : {x y b e : ℕ} {t : Bool} → t ≡ (ltb x b && leb e y) → t ≡ true → (x < b) × (e ≤ y)
-missed-test {x} {y} {b} {e} q h = by (ltb x b) refl (sym q ∙ h)
-  where
-    by : (u : Bool) → ltb x b ≡ u → (u && leb e y) ≡ true → (x < b) × (e ≤ y)
-    by true p r = (ltb-true x b p, leb-true e y r)
-    by false p r = let z : _≡_ {A = ℕ} 0 1 = cc in absurd (omega arith)
 
 pub missed-between : (a : List ℕ) (x y b e : ℕ) → ((m : ℕ) → m < 64 → (at a m ≤ x) ⊎ (y ≤ at a m)) → x < b → e ≤ y → Missed a b e
 missed-between a x y b e g l u m k = ⊎-elim (λ h. inl (omega arith)) (λ h. inr (omega arith)) (g m k)

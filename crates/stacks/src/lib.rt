@@ -85,7 +85,7 @@ fn found_from(
                 let end = range.end;
                 at = c;
                 read += 1;
-                if places::misses(before, begin, end, after) {} else {
+                if places::may_hold(before, begin, end, after) {
                     let first = places::first_at(addresses, begin);
                     before = places::below(addresses, first);
                     after = places::above(addresses, first);

@@ -4,9 +4,9 @@ use super::answers::Rows;
 ghost use mathlib.Core.Path.{_≡_};
 ghost use mathlib.Core.List.{[], _∷_};
 ghost use Prim.Native.Nat.{_+_, _-_, _^_, _≤_, _<_};
-ghost use lib.Dec.{eqb, ltb, leb};
+ghost use lib.Dec.{eqb, ltb};
 ghost use lib.ListN.{length};
-ghost use mathlib.Core.Bool.{_&&_};
+ghost use mathlib.Core.Bool.{false};
 ghost use Rattle.bytes.specs.Read.{pick};
 ghost use Rattle.stacks.specs.Ascending.{ascends as ascendsIn};
 ghost use Rattle.stacks.specs.Places.{at, Ascending, padded as paddedTo, Less, FirstAt, Between, Hops, WaitingFrom, Settled};
@@ -100,15 +100,15 @@ pub(crate) fn above(addresses: &Addresses, i: usize) -> u64
     0xffff_ffff_ffff_ffff
 }
 
-// Whether a range holds none of the addresses, as far as two neighbours among them tell: it begins above the one and ends before the
-// other.
-pub(crate) fn misses(before: u64, begin: u64, end: u64, after: u64) -> bool
-    ensures { λ r. ⌜ r ≡ (ltb before begin && leb end after) ⌝ }
+// Whether a range may hold one of the addresses, as far as two neighbours among them tell: not where it begins above the one and ends
+// before the other.
+pub(crate) fn may_hold(before: u64, begin: u64, end: u64, after: u64) -> bool
+    ensures { λ r. ⌜ (r ≡ false → (before < begin) × (end ≤ after)) ⌝ }
 {
     if before < begin {
-        return end <= after;
+        return after < end;
     }
-    false
+    true
 }
 
 // A range goes to the places that wait and whose addresses it holds, of which `first` is not above any; a place behind all that it

@@ -11,7 +11,7 @@ use Rattle.lists.specs.Walk.{dataIn, item}
 use Rattle.lists.specs.Steps.{yields, toldStepped, steppedIn}
 use Rattle.lookups.specs.Lookup.{toldLocationFound}
 use Rattle.lookups.proofs.SeekLaws.{Steps, step-ahead}
-use Rattle.stacks.proofs.GoingLaws.{neighbours, waiting-until, missed-test, missed-between, missed-first}
+use Rattle.stacks.proofs.GoingLaws.{neighbours, waiting-until, missed-between, missed-first}
 use Rattle.stacks.proofs.SettleLaws.{fill-until}
 use Rattle.stacks.proofs.StackLaws.{Loop, row-with, loop-start, loop-base, loop-nothing, loop-missed, loop-found, loop-all, loop-failed, loop-refused, loop-mark, loop-over, loop-default}
 use Rattle.stacks.proofs.found_from.Statement.{statement}
@@ -51,16 +51,8 @@ add-read : tie.Need-add-read Inv-loop μ-loop
 add-read c =
     let a = c .before .before .before .before .before .before .before .before .before .before .args in let z = step-ahead (a .locations) (codingOf (a .split) (a .by-table) (a .kinds .now)) (a .encoding) (a .endian) (a .section .now) (a .debug-addr .now) (a .debug-addr-base) (c .before .before .before .before .before .loop .at) (c .before .before .before .before .before .loop .base-address) (bounded-met (c .before .before)) in let y = c .before .before .before .before .before .loop .inv .counted in let x = short (c .before .before .before .before .before) in omega arith
 
-misses-requires : tie.Need-misses-requires Inv-loop μ-loop
-misses-requires c κs = tt
-
-loop-less : tie.Need-loop-less Inv-loop μ-loop
-loop-less c =
-    let a = c .before .before .before .before .before .before .before .before .before .before .before .before .args in let z = step-ahead (a .locations) (codingOf (a .split) (a .by-table) (a .kinds .now)) (a .encoding) (a .endian) (a .section .now) (a .debug-addr .now) (a .debug-addr-base) (c .before .before .before .before .before .before .before .loop .at) (c .before .before .before .before .before .before .before .loop .base-address) (bounded-met (c .before .before .before .before)) in omega arith
-
-loop-again : tie.Need-loop-again Inv-loop μ-loop
-loop-again c =
-    let m = missed-test (c .before .misses .ensures) (c .if1 .taken) in let a = c .before .before .before .before .before .before .before .before .before .before .before .before .args in loop-missed (a .locations) (codingOf (a .split) (a .by-table) (a .kinds .now)) (a .encoding) (a .endian) (a .section .now) (a .debug-addr .now) (a .debug-addr-base) (take (a .n) (a .addresses .now)) (a .addresses .now) (a .rows .now) (a .start) (a .base) (c .before .before .before .before .before .before .before .before .before .before .before .before .pre .0) (c .before .before .before .before .before .before .before .loop .inv) (short (c .before .before .before .before .before .before .before)) (c .before .before .before .before .location .given .0 .0 .«data») (bounded-met (c .before .before .before .before)) _ _ (c .before .before .before .before .before .before .before .loop .inv .goes .gap) (missed-between (a .addresses .now) _ _ _ _ (c .before .before .before .before .before .before .before .loop .inv .goes .gap) (m .0) (m .1))
+may-hold-requires : tie.Need-may-hold-requires Inv-loop μ-loop
+may-hold-requires c κs = tt
 
 first-at-requires : tie.Need-first-at-requires Inv-loop μ-loop
 first-at-requires c κs =
@@ -93,21 +85,29 @@ returns : tie.Need-returns Inv-loop μ-loop
 returns c =
     let k : length (take (c .before .before .before .before .before .before .before .before .before .before .before .before .before .before .before .before .before .before .before .before .before .before .before .before .before .args .n) (c .before .before .before .before .before .before .before .before .before .before .before .before .before .before .before .before .before .before .before .before .before .before .before .before .before .args .addresses .now)) ≤ c .before .waiting-from .result = let y = c .before .before .before .before .before .before .before .before .before .before .before .before .before .before .before .before .before .before .before .before .before .before .before .before .before .pre .1 in omega (arith, c .if3 .taken) in let e = (let a = c .before .before .before .before .before .before .before .before .before .before .before .before .before .before .before .before .before .before .before .before .before .before .before .before .before .args in loop-all (a .locations) (codingOf (a .split) (a .by-table) (a .kinds .now)) (a .encoding) (a .endian) (a .section .now) (a .debug-addr .now) (a .debug-addr-base) (take (a .n) (a .addresses .now)) (a .addresses .now) (a .rows .now) (a .start) (a .base) (c .before .before .before .before .before .before .before .before .before .before .before .before .before .before .before .before .before .before .before .before .before .before .before .before .before .pre .0) (c .before .before .before .before .before .before .before .before .before .before .before .before .before .before .before .before .before .before .before .before .loop .inv) (short (c .before .before .before .before .before .before .before .before .before .before .before .before .before .before .before .before .before .before .before .before)) (c .before .before .before .before .before .before .before .before .before .before .before .before .before .before .before .before .before .location .given .0 .0 .«data») (bounded-met (c .before .before .before .before .before .before .before .before .before .before .before .before .before .before .before .before .before)) (c .before .before .before .before .before .settle .ensures .top) (row-with (c .before .before .before .before .before .before .before .before .shown .ensures)) (c .before .before .before .before .before .settle .ensures) (waiting-until (c .before .waiting-from .ensures) (sym (c .before .before .before .before .before .before .before .before .before .before .before .before .before .before .before .before .before .before .before .before .before .before .before .before .before .pre .1))) k) in (e .rows-are, e .read-is)
 
+loop-less : tie.Need-loop-less Inv-loop μ-loop
+loop-less c =
+    let a = c .before .before .before .before .before .before .before .before .before .before .before .before .before .before .before .before .before .before .before .before .before .before .before .before .before .args in let z = step-ahead (a .locations) (codingOf (a .split) (a .by-table) (a .kinds .now)) (a .encoding) (a .endian) (a .section .now) (a .debug-addr .now) (a .debug-addr-base) (c .before .before .before .before .before .before .before .before .before .before .before .before .before .before .before .before .before .before .before .before .loop .at) (c .before .before .before .before .before .before .before .before .before .before .before .before .before .before .before .before .before .before .before .before .loop .base-address) (bounded-met (c .before .before .before .before .before .before .before .before .before .before .before .before .before .before .before .before .before)) in omega arith
+
+loop-again : tie.Need-loop-again Inv-loop μ-loop
+loop-again c =
+    let k : c .before .waiting-from .result < length (take (c .before .before .before .before .before .before .before .before .before .before .before .before .before .before .before .before .before .before .before .before .before .before .before .before .before .args .n) (c .before .before .before .before .before .before .before .before .before .before .before .before .before .before .before .before .before .before .before .before .before .before .before .before .before .args .addresses .now)) = let y = c .before .before .before .before .before .before .before .before .before .before .before .before .before .before .before .before .before .before .before .before .before .before .before .before .before .pre .1 in omega (arith, c .if3 .left) in let a = c .before .before .before .before .before .before .before .before .before .before .before .before .before .before .before .before .before .before .before .before .before .before .before .before .before .args in loop-found (a .locations) (codingOf (a .split) (a .by-table) (a .kinds .now)) (a .encoding) (a .endian) (a .section .now) (a .debug-addr .now) (a .debug-addr-base) (take (a .n) (a .addresses .now)) (a .addresses .now) (a .rows .now) (a .start) (a .base) (c .before .before .before .before .before .before .before .before .before .before .before .before .before .before .before .before .before .before .before .before .before .before .before .before .before .pre .0) (c .before .before .before .before .before .before .before .before .before .before .before .before .before .before .before .before .before .before .before .before .loop .inv) (short (c .before .before .before .before .before .before .before .before .before .before .before .before .before .before .before .before .before .before .before .before)) (c .before .before .before .before .before .before .before .before .before .before .before .before .before .before .before .before .before .location .given .0 .0 .«data») (bounded-met (c .before .before .before .before .before .before .before .before .before .before .before .before .before .before .before .before .before)) (c .before .before .before .before .before .settle .ensures .top) (row-with (c .before .before .before .before .before .before .before .before .shown .ensures)) (c .before .before .before .before .before .settle .ensures) (waiting-until (c .before .waiting-from .ensures) (sym (c .before .before .before .before .before .before .before .before .before .before .before .before .before .before .before .before .before .before .before .before .before .before .before .before .before .pre .1))) _ _ (neighbours (a .addresses .now) (c .before .before .before .before .before .before .before .before .before .before .before .before .before .before .before .before .before .before .before .before .before .before .before .before .before .pre .0 .up) _ _ _ (c .before .before .before .before .below2 .ensures) (c .before .before .before .above2 .ensures) (c .before .before .before .before .before .settle .ensures .most)) k
+
 loop-less-2 : tie.Need-loop-less-2 Inv-loop μ-loop
 loop-less-2 c =
-    let a = c .before .before .before .before .before .before .before .before .before .before .before .before .before .before .before .before .before .before .before .before .before .before .before .before .before .args in let z = step-ahead (a .locations) (codingOf (a .split) (a .by-table) (a .kinds .now)) (a .encoding) (a .endian) (a .section .now) (a .debug-addr .now) (a .debug-addr-base) (c .before .before .before .before .before .before .before .before .before .before .before .before .before .before .before .before .before .before .before .before .loop .at) (c .before .before .before .before .before .before .before .before .before .before .before .before .before .before .before .before .before .before .before .before .loop .base-address) (bounded-met (c .before .before .before .before .before .before .before .before .before .before .before .before .before .before .before .before .before)) in omega arith
+    let a = c .before .before .before .before .before .before .before .before .before .before .before .before .before .before .before .before .args in let z = step-ahead (a .locations) (codingOf (a .split) (a .by-table) (a .kinds .now)) (a .encoding) (a .endian) (a .section .now) (a .debug-addr .now) (a .debug-addr-base) (c .before .before .before .before .before .before .before .before .before .before .before .loop .at) (c .before .before .before .before .before .before .before .before .before .before .before .loop .base-address) (bounded-met (c .before .before .before .before .before .before .before .before)) in omega arith
 
 loop-again-2 : tie.Need-loop-again-2 Inv-loop μ-loop
 loop-again-2 c =
-    let k : c .before .waiting-from .result < length (take (c .before .before .before .before .before .before .before .before .before .before .before .before .before .before .before .before .before .before .before .before .before .before .before .before .before .args .n) (c .before .before .before .before .before .before .before .before .before .before .before .before .before .before .before .before .before .before .before .before .before .before .before .before .before .args .addresses .now)) = let y = c .before .before .before .before .before .before .before .before .before .before .before .before .before .before .before .before .before .before .before .before .before .before .before .before .before .pre .1 in omega (arith, c .if3 .left) in let a = c .before .before .before .before .before .before .before .before .before .before .before .before .before .before .before .before .before .before .before .before .before .before .before .before .before .args in loop-found (a .locations) (codingOf (a .split) (a .by-table) (a .kinds .now)) (a .encoding) (a .endian) (a .section .now) (a .debug-addr .now) (a .debug-addr-base) (take (a .n) (a .addresses .now)) (a .addresses .now) (a .rows .now) (a .start) (a .base) (c .before .before .before .before .before .before .before .before .before .before .before .before .before .before .before .before .before .before .before .before .before .before .before .before .before .pre .0) (c .before .before .before .before .before .before .before .before .before .before .before .before .before .before .before .before .before .before .before .before .loop .inv) (short (c .before .before .before .before .before .before .before .before .before .before .before .before .before .before .before .before .before .before .before .before)) (c .before .before .before .before .before .before .before .before .before .before .before .before .before .before .before .before .before .location .given .0 .0 .«data») (bounded-met (c .before .before .before .before .before .before .before .before .before .before .before .before .before .before .before .before .before)) (c .before .before .before .before .before .settle .ensures .top) (row-with (c .before .before .before .before .before .before .before .before .shown .ensures)) (c .before .before .before .before .before .settle .ensures) (waiting-until (c .before .waiting-from .ensures) (sym (c .before .before .before .before .before .before .before .before .before .before .before .before .before .before .before .before .before .before .before .before .before .before .before .before .before .pre .1))) _ _ (neighbours (a .addresses .now) (c .before .before .before .before .before .before .before .before .before .before .before .before .before .before .before .before .before .before .before .before .before .before .before .before .before .pre .0 .up) _ _ _ (c .before .before .before .before .below2 .ensures) (c .before .before .before .above2 .ensures) (c .before .before .before .before .before .settle .ensures .most)) k
+    let a = c .before .before .before .before .before .before .before .before .before .before .before .before .before .before .before .before .args in loop-missed (a .locations) (codingOf (a .split) (a .by-table) (a .kinds .now)) (a .encoding) (a .endian) (a .section .now) (a .debug-addr .now) (a .debug-addr-base) (take (a .n) (a .addresses .now)) (a .addresses .now) (a .rows .now) (a .start) (a .base) (c .before .before .before .before .before .before .before .before .before .before .before .before .before .before .before .before .pre .0) (c .before .before .before .before .before .before .before .before .before .before .before .loop .inv) (short (c .before .before .before .before .before .before .before .before .before .before .before)) (c .before .before .before .before .before .before .before .before .location .given .0 .0 .«data») (bounded-met (c .before .before .before .before .before .before .before .before)) _ _ (neighbours (a .addresses .now) (c .before .before .before .before .before .before .before .before .before .before .before .before .before .before .before .before .pre .0 .up) _ _ _ (c .before .before .below .ensures) (c .before .above .ensures) (c .before .before .before .first-at .ensures .most)) (missed-first (a .addresses .now) (c .before .before .before .before .before .before .before .before .before .before .before .before .before .before .before .before .pre .0 .up) _ _ _ _ (c .before .before .before .first-at .ensures) (c .before .above .ensures) (c .if2 .left))
 
 loop-less-3 : tie.Need-loop-less-3 Inv-loop μ-loop
 loop-less-3 c =
-    let a = c .before .before .before .before .before .before .before .before .before .before .before .before .before .before .before .before .args in let z = step-ahead (a .locations) (codingOf (a .split) (a .by-table) (a .kinds .now)) (a .encoding) (a .endian) (a .section .now) (a .debug-addr .now) (a .debug-addr-base) (c .before .before .before .before .before .before .before .before .before .before .before .loop .at) (c .before .before .before .before .before .before .before .before .before .before .before .loop .base-address) (bounded-met (c .before .before .before .before .before .before .before .before)) in omega arith
+    let a = c .before .before .before .before .before .before .before .before .before .before .before .before .args in let z = step-ahead (a .locations) (codingOf (a .split) (a .by-table) (a .kinds .now)) (a .encoding) (a .endian) (a .section .now) (a .debug-addr .now) (a .debug-addr-base) (c .before .before .before .before .before .before .before .loop .at) (c .before .before .before .before .before .before .before .loop .base-address) (bounded-met (c .before .before .before .before)) in omega arith
 
 loop-again-3 : tie.Need-loop-again-3 Inv-loop μ-loop
 loop-again-3 c =
-    let a = c .before .before .before .before .before .before .before .before .before .before .before .before .before .before .before .before .args in loop-missed (a .locations) (codingOf (a .split) (a .by-table) (a .kinds .now)) (a .encoding) (a .endian) (a .section .now) (a .debug-addr .now) (a .debug-addr-base) (take (a .n) (a .addresses .now)) (a .addresses .now) (a .rows .now) (a .start) (a .base) (c .before .before .before .before .before .before .before .before .before .before .before .before .before .before .before .before .pre .0) (c .before .before .before .before .before .before .before .before .before .before .before .loop .inv) (short (c .before .before .before .before .before .before .before .before .before .before .before)) (c .before .before .before .before .before .before .before .before .location .given .0 .0 .«data») (bounded-met (c .before .before .before .before .before .before .before .before)) _ _ (neighbours (a .addresses .now) (c .before .before .before .before .before .before .before .before .before .before .before .before .before .before .before .before .pre .0 .up) _ _ _ (c .before .before .below .ensures) (c .before .above .ensures) (c .before .before .before .first-at .ensures .most)) (missed-first (a .addresses .now) (c .before .before .before .before .before .before .before .before .before .before .before .before .before .before .before .before .pre .0 .up) _ _ _ _ (c .before .before .before .first-at .ensures) (c .before .above .ensures) (c .if2 .left))
+    let m = c .before .may-hold .ensures (c .if1 .left) in let a = c .before .before .before .before .before .before .before .before .before .before .before .before .args in loop-missed (a .locations) (codingOf (a .split) (a .by-table) (a .kinds .now)) (a .encoding) (a .endian) (a .section .now) (a .debug-addr .now) (a .debug-addr-base) (take (a .n) (a .addresses .now)) (a .addresses .now) (a .rows .now) (a .start) (a .base) (c .before .before .before .before .before .before .before .before .before .before .before .before .pre .0) (c .before .before .before .before .before .before .before .loop .inv) (short (c .before .before .before .before .before .before .before)) (c .before .before .before .before .location .given .0 .0 .«data») (bounded-met (c .before .before .before .before)) _ _ (c .before .before .before .before .before .before .before .loop .inv .goes .gap) (missed-between (a .addresses .now) _ _ _ _ (c .before .before .before .before .before .before .before .loop .inv .goes .gap) (m .0) (m .1))
 
 enum-known-location-2 : tie.Need-enum-known-location-2 Inv-loop μ-loop
 enum-known-location-2 c = search needs
@@ -213,9 +213,7 @@ found-from-spec =
     step-requires
     enum-known-location
     add-read
-    misses-requires
-    loop-less
-    loop-again
+    may-hold-requires
     first-at-requires
     below-requires
     above-requires
@@ -225,6 +223,8 @@ found-from-spec =
     above-requires-2
     waiting-from-requires
     returns
+    loop-less
+    loop-again
     loop-less-2
     loop-again-2
     loop-less-3
