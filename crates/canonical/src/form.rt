@@ -11,7 +11,7 @@ use section_bytes::leb128::unsigned_size;
 
 // What stands at a place: the end mark as the last byte; the entry of a range as a canonical list has it, by begin, end and the
 // place after it; or neither.
-#[derive(Drop)]
+#[derive(Clone, Copy)]
 enum Piece {
     End,
     Entry(u64, u64, usize),

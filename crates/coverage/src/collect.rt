@@ -24,7 +24,7 @@ use section_bytes::endianity::RunTimeEndian;
 use section_bytes::error::Error;
 
 // How many ranges a coverage has; whether its list yields more than it may.
-#[derive(Drop)]
+#[derive(Clone, Copy)]
 pub enum Collected {
     Got(usize),
     Full,
@@ -32,7 +32,7 @@ pub enum Collected {
 }
 
 // What was gathered at the front of two arrays: so many ranges; or there is no room for the one that comes next from a walk.
-#[derive(Drop)]
+#[derive(Clone, Copy)]
 pub enum Gathered {
     All(usize),
     Full(Walk),

@@ -12,12 +12,12 @@ pub const LIMIT: usize = 3000;
 pub const SHORT: usize = 32;
 
 // The offset of a list of either kind, beside the word that says which.
-#[derive(Drop)]
+#[derive(Clone, Copy)]
 pub struct ListsOffset(pub u64);
 
 // The addresses that a list covers: a count, and in two arrays begins and ends, ascending, never overlapping or touching.
 // Places past the count are 0 and not read.
-#[derive(Drop)]
+#[derive(Clone, Copy)]
 pub struct Coverage {
     pub n: usize,
     pub begins: [u64; LIMIT],
@@ -25,21 +25,21 @@ pub struct Coverage {
 }
 
 // Whether a coverage was made.
-#[derive(Drop)]
+#[derive(Clone, Copy)]
 pub enum Verdict {
     Made,
     Refused(Error),
 }
 
 // A coverage with its verdict: where that is a refusal, the empty coverage.
-#[derive(Drop)]
+#[derive(Clone, Copy)]
 pub struct Made {
     pub verdict: Verdict,
     pub coverage: Coverage,
 }
 
 // How many bytes a call wrote.
-#[derive(Drop)]
+#[derive(Clone, Copy)]
 pub enum Wrote {
     Bytes(usize),
     Refused(Error),

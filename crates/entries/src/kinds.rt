@@ -7,7 +7,7 @@ use super::constants;
 use section_bytes::error::Error;
 
 // What loading a table answers.
-#[derive(Drop)]
+#[derive(Clone, Copy)]
 pub enum Loading {
     Loaded,
     Refused(Error),

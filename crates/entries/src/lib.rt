@@ -11,13 +11,13 @@ use section_bytes::common::DebugAddrIndex;
 use section_bytes::error::Error;
 
 // An expression's bytes: where they start, counted from the section's start, and how many they are.
-#[derive(Drop)]
+#[derive(Clone, Copy)]
 pub struct Expression {
     pub offset: usize,
     pub len: usize,
 }
 
-#[derive(Drop)]
+#[derive(Clone, Copy)]
 pub enum RawRngListEntry {
     AddressOrOffsetPair(u64, u64),
     BaseAddress(u64),
@@ -29,7 +29,7 @@ pub enum RawRngListEntry {
     StartLength(u64, u64),
 }
 
-#[derive(Drop)]
+#[derive(Clone, Copy)]
 pub enum RawLocListEntry {
     AddressOrOffsetPair(u64, u64, Expression),
     BaseAddress(u64),
@@ -43,14 +43,14 @@ pub enum RawLocListEntry {
 }
 
 // One call of a raw reader: an entry, whether some LEB128 number of it is padded, and the place after it; the end; or a refusal.
-#[derive(Drop)]
+#[derive(Clone, Copy)]
 pub enum RawRangeStep {
     Entry(RawRngListEntry, bool, usize),
     End,
     Refused(Error),
 }
 
-#[derive(Drop)]
+#[derive(Clone, Copy)]
 pub enum RawLocationStep {
     Entry(RawLocListEntry, bool, usize),
     End,
@@ -58,7 +58,7 @@ pub enum RawLocationStep {
 }
 
 // The same for both lists, without that.
-#[derive(Drop)]
+#[derive(Clone, Copy)]
 pub enum LocationStep {
     Entry(RawLocListEntry, usize),
     End,

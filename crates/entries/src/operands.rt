@@ -14,7 +14,7 @@ use section_bytes::leb128::OneByte;
 use section_bytes::{Num, Split};
 
 // An expression that was read, with the place after it.
-#[derive(Drop)]
+#[derive(Clone, Copy)]
 pub enum ExpressionAnswer {
     Got(Expression, usize),
     Refused(Error),

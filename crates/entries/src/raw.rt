@@ -18,7 +18,7 @@ use section_bytes::error::Error;
 
 // What stands before an entry's expression, with the place after it: a code with two numbers, 0 for a bare pair and 5
 // without numbers; a base address, an end or a refusal, which no expression follows.
-#[derive(Drop)]
+#[derive(Clone, Copy)]
 pub(crate) enum Head {
     Bounds(u64, u64, u64, usize),
     BaseAddress(u64, usize),

@@ -10,7 +10,7 @@ use section_bytes::error::Error;
 // How a unit is written; any number but 0 says big-endian. It has 8 bytes: a caller that is out of registers passes it with one
 // store, which can be forwarded to the load here.
 #[repr(C)]
-#[derive(Drop)]
+#[derive(Clone, Copy)]
 pub struct YzEncoding {
     pub version: u16,
     pub address_size: u8,
@@ -20,7 +20,7 @@ pub struct YzEncoding {
 
 // A part of a section.
 #[repr(C)]
-#[derive(Drop)]
+#[derive(Clone, Copy)]
 pub struct YzPart {
     pub offset: u64,
     pub length: u64,
@@ -28,7 +28,7 @@ pub struct YzPart {
 
 // What a call comes to, and why it is refused: each answer begins with it.
 #[repr(C)]
-#[derive(Drop)]
+#[derive(Clone, Copy)]
 pub struct YzDone {
     pub result: u32,
     pub refusal: u32,

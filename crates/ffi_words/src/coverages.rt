@@ -11,7 +11,7 @@ use section_bytes::error::Error;
 
 // How many ranges a coverage has, or how many bytes were written.
 #[repr(C)]
-#[derive(Drop)]
+#[derive(Clone, Copy)]
 pub struct YzCount {
     pub done: YzDone,
     pub count: u64,

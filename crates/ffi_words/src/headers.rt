@@ -18,7 +18,7 @@ use tables::rnglists::RangeOffsetAnswer;
 
 // A header of lists: how its unit is written, how many offsets it counts, its own size, and what is left of the unit.
 #[repr(C)]
-#[derive(Drop)]
+#[derive(Clone, Copy)]
 pub struct YzListsHeader {
     pub done: YzDone,
     pub encoding: YzEncoding,
@@ -29,7 +29,7 @@ pub struct YzListsHeader {
 
 // The header of an address table: how it is written, where it stands, its length, and where its addresses are.
 #[repr(C)]
-#[derive(Drop)]
+#[derive(Clone, Copy)]
 pub struct YzTableHeader {
     pub done: YzDone,
     pub encoding: YzEncoding,

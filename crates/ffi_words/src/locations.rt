@@ -21,7 +21,7 @@ use section_bytes::endianity::RunTimeEndian;
 use section_bytes::error::Error;
 
 #[repr(C)]
-#[derive(Drop)]
+#[derive(Clone, Copy)]
 pub struct YzLocation {
     pub done: YzDone,
     pub begin: u64,
@@ -31,7 +31,7 @@ pub struct YzLocation {
 
 // A raw entry: its kind's code, 0 for a bare pair, its numbers, and its expression.
 #[repr(C)]
-#[derive(Drop)]
+#[derive(Clone, Copy)]
 pub struct YzLocationEntry {
     pub kind: u64,
     pub first: u64,
@@ -41,7 +41,7 @@ pub struct YzLocationEntry {
 
 // 1 where some LEB128 number of the entry is padded.
 #[repr(C)]
-#[derive(Drop)]
+#[derive(Clone, Copy)]
 pub struct YzRawLocation {
     pub done: YzDone,
     pub entry: YzLocationEntry,
@@ -224,7 +224,7 @@ pub fn raw_location(r: RawLocationAnswer, words: &mut WalkWords) -> YzRawLocatio
 }
 
 // An entry that a caller hands in, or 4 for a code above the kinds.
-#[derive(Drop)]
+#[derive(Clone, Copy)]
 pub enum LocationTaken {
     Entry(RawLocListEntry),
     Refused(Error),

@@ -21,7 +21,7 @@ use section_bytes::endianity::RunTimeEndian;
 use section_bytes::error::Error;
 
 #[repr(C)]
-#[derive(Drop)]
+#[derive(Clone, Copy)]
 pub struct YzRange {
     pub done: YzDone,
     pub begin: u64,
@@ -30,7 +30,7 @@ pub struct YzRange {
 
 // A raw entry: its kind's code, 0 for a bare pair, and its numbers.
 #[repr(C)]
-#[derive(Drop)]
+#[derive(Clone, Copy)]
 pub struct YzRangeEntry {
     pub kind: u64,
     pub first: u64,
@@ -39,7 +39,7 @@ pub struct YzRangeEntry {
 
 // 1 where some LEB128 number of the entry is padded.
 #[repr(C)]
-#[derive(Drop)]
+#[derive(Clone, Copy)]
 pub struct YzRawRange {
     pub done: YzDone,
     pub entry: YzRangeEntry,
@@ -181,7 +181,7 @@ pub fn raw_range(r: RawRangeAnswer, words: &mut WalkWords) -> YzRawRange
 }
 
 // An entry that a caller hands in, or 3 for a code above the kinds.
-#[derive(Drop)]
+#[derive(Clone, Copy)]
 pub enum RangeTaken {
     Entry(RawRngListEntry),
     Refused(Error),

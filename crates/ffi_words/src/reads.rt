@@ -11,7 +11,7 @@ use section_bytes::{InitialLength, Num, Place, Split};
 
 // A number.
 #[repr(C)]
-#[derive(Drop)]
+#[derive(Clone, Copy)]
 pub struct YzNumber {
     pub done: YzDone,
     pub number: u64,
@@ -19,7 +19,7 @@ pub struct YzNumber {
 
 // The place after what was read, and the number there.
 #[repr(C)]
-#[derive(Drop)]
+#[derive(Clone, Copy)]
 pub struct YzRead {
     pub done: YzDone,
     pub next: u64,
@@ -28,7 +28,7 @@ pub struct YzRead {
 
 // The place after a LEB128 number, the number, how many bytes it took, and 1 where a shorter form of it exists.
 #[repr(C)]
-#[derive(Drop)]
+#[derive(Clone, Copy)]
 pub struct YzLeb128 {
     pub done: YzDone,
     pub next: u64,
@@ -39,7 +39,7 @@ pub struct YzLeb128 {
 
 // The place after what was passed over.
 #[repr(C)]
-#[derive(Drop)]
+#[derive(Clone, Copy)]
 pub struct YzPlace {
     pub done: YzDone,
     pub next: u64,
@@ -47,7 +47,7 @@ pub struct YzPlace {
 
 // The place after a part, and the part.
 #[repr(C)]
-#[derive(Drop)]
+#[derive(Clone, Copy)]
 pub struct YzSplitPart {
     pub done: YzDone,
     pub next: u64,
@@ -56,7 +56,7 @@ pub struct YzSplitPart {
 
 // The place after an initial length, the length, and 1 for 64-bit DWARF.
 #[repr(C)]
-#[derive(Drop)]
+#[derive(Clone, Copy)]
 pub struct YzUnitLength {
     pub done: YzDone,
     pub next: u64,

@@ -14,7 +14,7 @@ use section_bytes::error::Error;
 use tables::addr::AddressAnswer;
 
 // A range, another base address, nothing, or a refused lookup.
-#[derive(Drop)]
+#[derive(Clone, Copy)]
 pub enum Converted {
     Range(Range),
     Base(u64),
@@ -24,7 +24,7 @@ pub enum Converted {
 
 // The range of an entry before it is looked at; or what an entry comes to that has none. All ranges are then tested at one place
 // of the code, so that begin and end stay in registers.
-#[derive(Drop)]
+#[derive(Clone, Copy)]
 enum Unchecked {
     Range(u64, u64),
     Other(Converted),

@@ -10,7 +10,7 @@ use entries::Expression;
 use section_bytes::error::Error;
 
 // A place in the section, the base address there, and how many raw entries were read since the list was opened.
-#[derive(Drop)]
+#[derive(Clone, Copy)]
 pub struct Walk {
     pub at: usize,
     pub base_address: u64,
@@ -18,21 +18,21 @@ pub struct Walk {
 }
 
 // The addresses from begin on, end not among them.
-#[derive(Drop)]
+#[derive(Clone, Copy)]
 pub struct Range {
     pub begin: u64,
     pub end: u64,
 }
 
 // A range and the expression that says where the value lives there.
-#[derive(Drop)]
+#[derive(Clone, Copy)]
 pub struct LocationListEntry {
     pub range: Range,
     pub data: Expression,
 }
 
 // A list that was opened.
-#[derive(Drop)]
+#[derive(Clone, Copy)]
 pub enum Opened {
     List(Walk),
     Refused(Error),

@@ -41,7 +41,7 @@ pub fn raw_locations(section: &[u8], offset: LocationListsOffset, encoding: Enco
     super::open::open(section, offset.0, encoding, 0)
 }
 
-#[derive(Drop)]
+#[derive(Clone, Copy)]
 pub enum RawLocationAnswer {
     Entry(RawLocListEntry, bool, Walk),
     End(Walk),
@@ -63,7 +63,7 @@ pub fn next_raw(
     super::listed::next_raw(section, walk, encoding, endian, true, split, false, section)
 }
 
-#[derive(Drop)]
+#[derive(Clone, Copy)]
 pub enum LocationConverted {
     Location(LocationListEntry, Walk),
     Nothing(Walk),
@@ -95,7 +95,7 @@ pub fn convert_raw(
     )
 }
 
-#[derive(Drop)]
+#[derive(Clone, Copy)]
 pub enum LocationAnswer {
     Location(LocationListEntry, Walk),
     End(Walk),
@@ -132,7 +132,7 @@ pub fn next(
 
 // What one entry comes to, with the place after it: a bounded location or a default one; another base address; nothing; a failed
 // address lookup. Or the end of the list, or a refused entry.
-#[derive(Drop)]
+#[derive(Clone, Copy)]
 pub enum Stepped {
     Bounded(LocationListEntry, usize),
     Default(LocationListEntry, usize),

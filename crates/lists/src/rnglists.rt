@@ -39,7 +39,7 @@ pub fn raw_ranges(section: &[u8], offset: RangeListsOffset, encoding: Encoding) 
     super::open::open(section, offset.0, encoding, 0)
 }
 
-#[derive(Drop)]
+#[derive(Clone, Copy)]
 pub enum RawRangeAnswer {
     Entry(RawRngListEntry, bool, Walk),
     End(Walk),
@@ -91,7 +91,7 @@ pub fn next_raw_by(
     raw_range_answer(r)
 }
 
-#[derive(Drop)]
+#[derive(Clone, Copy)]
 pub enum RangeConverted {
     Range(Range, Walk),
     Nothing(Walk),
@@ -128,7 +128,7 @@ pub fn convert_raw(
     }
 }
 
-#[derive(Drop)]
+#[derive(Clone, Copy)]
 pub enum RangeAnswer {
     Range(Range, Walk),
     End(Walk),

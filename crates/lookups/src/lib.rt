@@ -16,14 +16,14 @@ use section_bytes::common::{
 use section_bytes::endianity::RunTimeEndian;
 use section_bytes::error::Error;
 
-#[derive(Drop)]
+#[derive(Clone, Copy)]
 pub enum RangeFound {
     Found(Range),
     NotThere,
     Refused(Error),
 }
 
-#[derive(Drop)]
+#[derive(Clone, Copy)]
 pub enum LocationFound {
     Found(LocationListEntry),
     NotThere,

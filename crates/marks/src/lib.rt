@@ -10,27 +10,27 @@ use lists::Walk;
 use section_bytes::error::Error;
 
 // A mark, and the walk that it stores where it is set.
-#[derive(Drop)]
+#[derive(Clone, Copy)]
 pub struct Mark {
     pub is_set: bool,
     pub walk: Walk,
 }
 
 // A walk, and its marks by number, 0 to 7.
-#[derive(Drop)]
+#[derive(Clone, Copy)]
 pub struct MarkedWalk {
     pub walk: Walk,
     pub marks: [Mark; 8],
 }
 
-#[derive(Drop)]
+#[derive(Clone, Copy)]
 pub enum Marking {
     Done,
     Refused(Error),
 }
 
 // What a call comes to, and the walk with its marks then.
-#[derive(Drop)]
+#[derive(Clone, Copy)]
 pub struct MarkAnswer {
     pub marking: Marking,
     pub walk: MarkedWalk,

@@ -11,7 +11,7 @@ use section_bytes::error::Error;
 use tables::addr::AddressAnswer;
 
 // An entry keeps to the profile, or is refused.
-#[derive(Drop)]
+#[derive(Clone, Copy)]
 pub enum Held {
     Kept,
     Broken(Error),

@@ -82,7 +82,7 @@ fn location(r: LocationAnswer) -> Walk {
     }
 }
 
-#[derive(Drop)]
+#[derive(Clone, Copy)]
 enum Holds {
     Ranges,
     RangesBy,

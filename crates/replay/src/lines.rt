@@ -13,13 +13,13 @@ use section_bytes::endianity::RunTimeEndian;
 pub const ROOM: usize = 256;
 
 // What was taken from a line, with the place after it.
-#[derive(Drop)]
+#[derive(Clone, Copy)]
 pub enum Took {
     Got(u64, usize),
     Bad,
 }
 
-#[derive(Drop)]
+#[derive(Clone, Copy)]
 pub struct Call {
     pub what: u64,
     pub encoding: Encoding,
@@ -31,7 +31,7 @@ pub struct Call {
     pub at: usize,
 }
 
-#[derive(Drop)]
+#[derive(Clone, Copy)]
 pub enum Parsed {
     Call(Call),
     Bad,

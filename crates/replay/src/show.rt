@@ -40,7 +40,7 @@ pub(crate) fn refused(e: Error) {
 }
 
 // A raw entry: the code of its kind in a location list, and its numbers, 0 where it has fewer.
-#[derive(Drop)]
+#[derive(Clone, Copy)]
 pub struct Form {
     pub code: u64,
     pub a: u64,
@@ -68,7 +68,7 @@ pub(crate) fn raw(x: Form) {
 }
 
 // A walk after a call, and whether the call said the end.
-#[derive(Drop)]
+#[derive(Clone, Copy)]
 pub struct Turn {
     pub walk: Walk,
     pub ended: bool,

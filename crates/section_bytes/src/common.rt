@@ -3,7 +3,7 @@ ghost use Rattle.std.specs.Prelude.{◌≡◌};
 ghost use Rattle.section_bytes.specs.Common.{initial_length_size, word_size, is_split};
 
 // Whether offsets and lengths of a unit have 32 or 64 bits.
-#[derive(Drop)]
+#[derive(Clone, Copy)]
 pub enum Format {
     Dwarf64,
     Dwarf32,
@@ -32,7 +32,7 @@ impl Format {
 }
 
 // How a unit is written.
-#[derive(Drop)]
+#[derive(Clone, Copy)]
 pub struct Encoding {
     pub address_size: u8,
     pub format: Format,
@@ -40,7 +40,7 @@ pub struct Encoding {
 }
 
 // Whether a file is an ordinary one or a split one.
-#[derive(Drop)]
+#[derive(Clone, Copy)]
 pub enum DwarfFileType {
     Main,
     Dwo,
@@ -59,37 +59,37 @@ impl DwarfFileType {
 }
 
 // Where a table's header stands in `.debug_addr`.
-#[derive(Drop)]
+#[derive(Clone, Copy)]
 pub struct DebugAddrOffset(pub u64);
 
 // Where a table's addresses begin in `.debug_addr`.
-#[derive(Drop)]
+#[derive(Clone, Copy)]
 pub struct DebugAddrBase(pub u64);
 
 // Which address of a table.
-#[derive(Drop)]
+#[derive(Clone, Copy)]
 pub struct DebugAddrIndex(pub u64);
 
 // Where a list begins in `.debug_ranges` or `.debug_rnglists`.
-#[derive(Drop)]
+#[derive(Clone, Copy)]
 pub struct RangeListsOffset(pub u64);
 
 // Where an offset table begins in `.debug_rnglists`.
-#[derive(Drop)]
+#[derive(Clone, Copy)]
 pub struct DebugRngListsBase(pub u64);
 
 // Which offset of that table.
-#[derive(Drop)]
+#[derive(Clone, Copy)]
 pub struct DebugRngListsIndex(pub u64);
 
 // Where a list begins in `.debug_loc` or `.debug_loclists`.
-#[derive(Drop)]
+#[derive(Clone, Copy)]
 pub struct LocationListsOffset(pub u64);
 
 // Where an offset table begins in `.debug_loclists`.
-#[derive(Drop)]
+#[derive(Clone, Copy)]
 pub struct DebugLocListsBase(pub u64);
 
 // Which offset of that table.
-#[derive(Drop)]
+#[derive(Clone, Copy)]
 pub struct DebugLocListsIndex(pub u64);

@@ -4,7 +4,7 @@ ghost use Rattle.section_bytes.specs.Endianity.{value};
 ghost use Rattle.section_bytes.specs.Swap.{swap, Loaded};
 ghost use Rattle.section_bytes.specs.Reader.{is_size};
 
-#[derive(Drop)]
+#[derive(Clone, Copy)]
 pub enum RunTimeEndian {
     Little,
     Big,

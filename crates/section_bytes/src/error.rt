@@ -2,7 +2,7 @@
 ghost use Rattle.std.specs.Prelude.{◌≡◌, slice_index};
 ghost use Rattle.section_bytes.specs.Error.{number as number_of, values as values_of};
 
-#[derive(Drop)]
+#[derive(Clone, Copy)]
 pub enum Error {
     UnexpectedEof,
     BadUnsignedLeb128,

@@ -59,7 +59,7 @@ pub fn unsigned(s: &[u8], at: usize) -> Num
 }
 
 // A number of one byte with the place after it, or none.
-#[derive(Drop)]
+#[derive(Clone, Copy)]
 pub enum OneByte {
     Got(u64, usize),
     None,
@@ -93,7 +93,7 @@ pub fn unsigned_size(x: u64) -> usize
 }
 
 // A number, how many bytes it took, and whether a shorter form of it exists.
-#[derive(Drop)]
+#[derive(Clone, Copy)]
 pub struct Number {
     pub value: u64,
     pub len: usize,
@@ -101,7 +101,7 @@ pub struct Number {
 }
 
 // A number that was read, with the place after it.
-#[derive(Drop)]
+#[derive(Clone, Copy)]
 pub enum NumberAnswer {
     Got(Number, usize),
     Refused(Error),

@@ -25,7 +25,7 @@ pub const HEAD: usize = 4;
 pub const RANGE: usize = 16;
 
 // Whether a coverage makes a lawful sheet, and an output is long enough for it.
-#[derive(Drop)]
+#[derive(Clone, Copy)]
 enum Judgement {
     BadSheet,
     NoSpace,

@@ -26,7 +26,7 @@ use section_bytes::error::Error;
 pub const MOST: usize = 64;
 
 // How many raw entries were read, the end mark among them; or why no address was looked up.
-#[derive(Drop)]
+#[derive(Clone, Copy)]
 pub enum Reading {
     Entries(u64),
     Refused(Error),

@@ -27,7 +27,7 @@ pub(crate) fn ascends(addresses: &[u64]) -> bool
     true
 }
 
-#[derive(Drop)]
+#[derive(Clone, Copy)]
 pub(crate) struct AllPlaces {
     pub(crate) addresses: Addresses,
 }

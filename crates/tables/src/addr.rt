@@ -8,7 +8,7 @@ use section_bytes::endianity::RunTimeEndian;
 use section_bytes::error::Error;
 use section_bytes::{Num, Place, Span};
 
-#[derive(Drop)]
+#[derive(Clone, Copy)]
 pub enum AddressAnswer {
     Address(u64),
     Refused(Error),
@@ -40,7 +40,7 @@ pub fn get_address(
 }
 
 // A table: where its header stands, how it is written, the length that the header says, and where its addresses are.
-#[derive(Drop)]
+#[derive(Clone, Copy)]
 pub struct AddrHeader {
     pub offset: DebugAddrOffset,
     pub encoding: Encoding,
@@ -49,7 +49,7 @@ pub struct AddrHeader {
 }
 
 // A table's header, with the place after the table.
-#[derive(Drop)]
+#[derive(Clone, Copy)]
 pub enum AddrHeaderAnswer {
     Header(AddrHeader, usize),
     Refused(Error),
@@ -84,12 +84,12 @@ pub fn parse_header(debug_addr: &[u8], at: usize, endian: RunTimeEndian) -> Addr
 }
 
 // A walk over the headers of a section: the place of the next one.
-#[derive(Drop)]
+#[derive(Clone, Copy)]
 pub struct AddrHeaderIter {
     pub at: usize,
 }
 
-#[derive(Drop)]
+#[derive(Clone, Copy)]
 pub enum NextHeader {
     Header(AddrHeader, AddrHeaderIter),
     End(AddrHeaderIter),
@@ -118,7 +118,7 @@ impl AddrHeaderIter {
 }
 
 // A walk over the addresses of a table: the part of the section that is left, and how it is written.
-#[derive(Drop)]
+#[derive(Clone, Copy)]
 pub struct AddrEntryIter {
     pub entries: Span,
     pub encoding: Encoding,
@@ -135,7 +135,7 @@ impl AddrHeader {
     }
 }
 
-#[derive(Drop)]
+#[derive(Clone, Copy)]
 pub enum NextEntry {
     Address(u64, AddrEntryIter),
     End(AddrEntryIter),

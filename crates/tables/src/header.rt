@@ -8,7 +8,7 @@ use section_bytes::error::Error;
 use section_bytes::{InitialLength, Num, UnitLength};
 
 // What the fields say: the unit's length and format, where the unit ends in the section, and the address size.
-#[derive(Drop)]
+#[derive(Clone, Copy)]
 pub struct Head {
     pub length: u64,
     pub format: Format,
@@ -17,7 +17,7 @@ pub struct Head {
 }
 
 // The fields that were read, with the place after them.
-#[derive(Drop)]
+#[derive(Clone, Copy)]
 pub enum HeadAnswer {
     Got(Head, usize),
     Refused(Error),

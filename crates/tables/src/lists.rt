@@ -8,14 +8,14 @@ use section_bytes::endianity::RunTimeEndian;
 use section_bytes::error::Error;
 use section_bytes::{Num, Span};
 
-#[derive(Drop)]
+#[derive(Clone, Copy)]
 pub struct ListsHeader {
     pub encoding: Encoding,
     pub offset_entry_count: u64,
 }
 
 // A header, with the bytes of its unit that follow it.
-#[derive(Drop)]
+#[derive(Clone, Copy)]
 pub enum ListsAnswer {
     Header(ListsHeader, Span),
     Refused(Error),

@@ -10,7 +10,7 @@ use section_bytes::common::{
 use section_bytes::endianity::RunTimeEndian;
 use section_bytes::error::Error;
 
-#[derive(Drop)]
+#[derive(Clone, Copy)]
 pub enum RangeOffsetAnswer {
     Offset(RangeListsOffset),
     Refused(Error),

@@ -36,7 +36,7 @@ pub(crate) fn row_at(section: &[u8], base: u64, index: u64, width: u8) -> Place
     }
 }
 
-#[derive(Drop)]
+#[derive(Clone, Copy)]
 pub enum OffsetAnswer {
     Offset(u64),
     Refused(Error),
