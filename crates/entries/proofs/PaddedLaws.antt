@@ -337,7 +337,7 @@ module _ (encoding : Encoding) (endian : RunTimeEndian) where
     where
       by : (t : Bool) → pick t (coded_range_by number_of encoding endian s) (bare_range encoding endian s) ≡ gives (got (entry e) n)
           → (t && coded_padded encoding endian 0 s (numbered number_of)) ≡ range_longer encoding e n
-      by true f = coded_longer encoding endian 0 s (range_longer encoding) UnknownRangeListsEntry (numbered number_of) (λ code. kind_all _ range_kinds (range_rows s) (number_of code)) f
+      by true f = coded_longer encoding endian 0 s (range_longer encoding) UnknownRangeListsEntry (numbered number_of) (λ code. kind_all (KindSays encoding endian 0 s (range_longer encoding)) range_kinds (range_rows s) (number_of code)) f
       by false f =
           sym (subst (NeverIn encoding endian 0 s (range_longer encoding)) f
           (bare_never encoding endian 0 s (range_longer encoding) rng.BaseAddress [] rng.AddressOrOffsetPair (λ a n. refl) (λ b e n. refl)) n)
@@ -349,7 +349,7 @@ module _ (encoding : Encoding) (endian : RunTimeEndian) where
     where
       by : (t : Bool) → pick t (coded_location encoding endian start s) (bare_location encoding endian start s) ≡ gives (got (entry e) n)
           → (t && coded_padded encoding endian start s (kind_of location_kinds)) ≡ location_longer encoding e n
-      by true f = coded_longer encoding endian start s (location_longer encoding) UnknownLocListsEntry (kind_of location_kinds) (kind_all _ location_kinds (location_rows start s)) f
+      by true f = coded_longer encoding endian start s (location_longer encoding) UnknownLocListsEntry (kind_of location_kinds) (kind_all (KindSays encoding endian start s (location_longer encoding)) location_kinds (location_rows start s)) f
       by false f =
           sym (subst (NeverIn encoding endian start s (location_longer encoding)) f
           (bare_never encoding endian start s (location_longer encoding) loc.BaseAddress (expression ∷ []) loc.AddressOrOffsetPair (λ a n. refl) (λ b e x n. refl)) n)

@@ -1,0 +1,20 @@
+-- The first ranges are those of the short arrays; for the others there is the room that is left. Assumes nothing.
+use Rattle.std.proofs.Common.{ℕ, List, ◌∙◌, ap₂, arith}
+use Rattle.coverage.proofs.GatherLaws.{firsts_copied}
+use Rattle.coverage.specs.Ranges.{Range}
+use Rattle.coverage.specs.Covered.{holding, source}
+use Rattle.coverage.specs.Gathered.{short, coverage_within}
+use Rattle.coverage.proofs.collect.cover_long.Goals as goal
+
+pub returns : goal.returns
+returns c =
+    let a = c.args in
+    let x = source (holding a.locations a.split a.by_table a.kinds.now) a.encoding a.endian a.section.now a.offset.0 a.base_address a.debug-addr.now a.debug-addr-base in
+    let b = c.copy.ensures in
+    let e = c.copy-2.ensures in
+    let h = c.cover-arg-1.given in
+    let i = c.cover-arg-2-1.given in
+    let j = c.copy-arg-1.given in
+    let k = c.copy-arg-3-1.given in
+    let f = firsts_copied short a.first_begins.now a.first_ends.now c.copy.new.1.0 c.copy-2.new.1.0 (omega (arith, j), omega (arith, k)) (omega (arith, h), omega (arith, i)) b.0 e.0 in
+    (c.cover.ensures.ends_after ∙ ap₂ (λ (d : List Range) (n : ℕ). coverage_within d n x) f (omega (arith, h)), (c.cover.ensures.sized.0 ∙ omega (arith, h), c.cover.ensures.sized.1 ∙ omega (arith, h)))

@@ -1,0 +1,10 @@
+-- The arrays' length is the room, and nothing stands in them before. Assumes nothing.
+use Rattle.std.proofs.Common.{◌≡◌, ◌-◌, length, arith}
+use Rattle.coverage.specs.Gathered.{short}
+use Rattle.coverage.proofs.collect.cover_short.Goals as goal
+
+pub returns : goal.returns
+returns c =
+    let l : length c.args.begins.now ≡ short = omega (arith, c.cover-arg-1.given) in
+    let r : length c.args.begins.now - 0 ≡ short = omega (arith, l) in
+    (rw r at c.cover.ensures.ends_after, rw l at c.cover.ensures.sized)

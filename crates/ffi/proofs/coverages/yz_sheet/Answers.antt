@@ -1,0 +1,8 @@
+-- `coverages::yz_sheet` meets its contract: by the contracts of the calls in it. Assumes nothing.
+use Rattle.ffi_words.proofs.CoverageLaws.{output_left_lem}
+use Rattle.ffi.proofs.coverages.yz_sheet.Goals as goal
+
+pub returns : goal.returns
+returns c =
+    output_left_lem _ c.count_written.ensures
+    c.sheet_of-r.ensures

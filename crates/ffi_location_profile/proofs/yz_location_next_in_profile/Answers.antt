@@ -1,0 +1,11 @@
+-- `yz_location_next_in_profile` meets its contract: by the contracts of the calls in it; what the call reads is counted from 0 and added. Assumes nothing.
+use Rattle.ffi_words.proofs.WordLaws.{file_split}
+use mathlib.Core.Path.{ap}
+use Rattle.profile.proofs.RaisedLaws.{location_profile_raised}
+use Rattle.ffi_words.specs.Common.{encoding_of, endian_in}
+use Rattle.ffi_words.specs.Walks.{walk_in, split_in}
+use Rattle.ffi_words.specs.Locations.{location_next}
+use Rattle.ffi_location_profile.proofs.yz_location_next_in_profile.Goals as goal
+
+pub returns : goal.returns
+returns c = rw (c.location_next.ensures, c.next_location-r.ensures, c.endian_in-endian.ensures, c.encoding_of-unit.ensures, c.file_in-file.ensures, file_split, c.start_in-start.ensures) (let a = c.args in ap (location_next a.walk.now) (location_profile_raised (encoding_of a.encoding) (endian_in a.encoding) a.section.now a.debug-addr.now (record { 0 = a.debug-addr-base }) (walk_in a.walk.now) (split_in a.walk.now)))

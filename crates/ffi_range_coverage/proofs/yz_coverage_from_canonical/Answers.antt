@@ -1,0 +1,6 @@
+-- The call below puts the coverage into the lent arrays, and its count is told. Assumes nothing.
+use Rattle.ffi_words.proofs.CoverageLaws.{placed_told_lem}
+use Rattle.ffi_range_coverage.proofs.yz_coverage_from_canonical.Goals as goal
+
+pub returns : goal.returns
+returns c = placed_told_lem _ c.count_placed.ensures c.place_canonical-r.ensures

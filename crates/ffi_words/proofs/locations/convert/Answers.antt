@@ -1,0 +1,26 @@
+-- `locations::convert` meets its contract: by the contracts of the calls in it. Assumes nothing.
+use mathlib.Core.Path.{sym, ◌∙◌}
+use Rattle.lists.specs.Walk.{converted_location}
+use Rattle.ffi_words.specs.Entries.{convert_location}
+use Rattle.ffi_words.proofs.EntryLaws.{sized_known, sized_other}
+use Rattle.ffi_words.proofs.locations.convert.Goals as goal
+
+pub returns-in-Entry : goal.returns-in-Entry
+unfolding convert_location
+returns-in-Entry c =
+    let a = c.args in
+    sized_known a.encoding.address_size a.walk (converted_location a.encoding a.endian a.debug-addr.now a.debug-addr-base a.walk)
+    (sym c.is_address_size.ensures ∙ c.if-is_address_size.true) c.entry_in.ensures (rw c.in-Entry.is c.convert_raw.ensures)
+
+pub returns-in-Refused : goal.returns-in-Refused
+unfolding convert_location
+returns-in-Refused c =
+    let a = c.args in
+    sized_known a.encoding.address_size a.walk (converted_location a.encoding a.endian a.debug-addr.now a.debug-addr-base a.walk)
+    (sym c.is_address_size.ensures ∙ c.if-is_address_size.true) c.entry_in.ensures (rw c.in-Refused.is)
+
+pub returns : goal.returns
+unfolding convert_location
+returns c =
+    let a = c.args in
+    sized_other a.encoding.address_size a.walk _ (sym c.is_address_size.ensures ∙ c.if-is_address_size.false)

@@ -1,0 +1,30 @@
+-- `locations::entry_out` meets its contract: by the row of each kind. Assumes nothing.
+use Rattle.entries.proofs.FilledLaws.{locations_of}
+use Rattle.ffi_words.proofs.locations.entry_out.Goals as goal
+
+pub returns-in-AddressOrOffsetPair : goal.returns-in-AddressOrOffsetPair
+returns-in-AddressOrOffsetPair c = rw (c.in-AddressOrOffsetPair.is, c.numbers_with.ensures) (locations_of _ _ _).pair
+
+pub returns-in-BaseAddressx : goal.returns-in-BaseAddressx
+returns-in-BaseAddressx c = rw (c.in-BaseAddressx.is, c.numbers.ensures) (locations_of _ _ _).base_addressx
+
+pub returns-in-StartxEndx : goal.returns-in-StartxEndx
+returns-in-StartxEndx c = rw (c.in-StartxEndx.is, c.numbers_with-in-StartxEndx.ensures) (locations_of _ _ _).startx_endx
+
+pub returns-in-StartxLength : goal.returns-in-StartxLength
+returns-in-StartxLength c = rw (c.in-StartxLength.is, c.numbers_with-in-StartxLength.ensures) (locations_of _ _ _).startx_length
+
+pub returns-in-OffsetPair : goal.returns-in-OffsetPair
+returns-in-OffsetPair c = rw (c.in-OffsetPair.is, c.numbers_with-in-OffsetPair.ensures) (locations_of _ _ _).offset_pair
+
+pub returns-in-DefaultLocation : goal.returns-in-DefaultLocation
+returns-in-DefaultLocation c = rw (c.in-DefaultLocation.is, c.numbers_with-in-DefaultLocation.ensures) (locations_of _ _ _).default_location
+
+pub returns-in-BaseAddress : goal.returns-in-BaseAddress
+returns-in-BaseAddress c = rw (c.in-BaseAddress.is, c.numbers-in-BaseAddress.ensures) (locations_of _ _ _).base_address
+
+pub returns-in-StartEnd : goal.returns-in-StartEnd
+returns-in-StartEnd c = rw (c.in-StartEnd.is, c.numbers_with-in-StartEnd.ensures) (locations_of _ _ _).start_end
+
+pub returns-in-StartLength : goal.returns-in-StartLength
+returns-in-StartLength c = rw (c.in-StartLength.is, c.numbers_with-in-StartLength.ensures) (locations_of _ _ _).start_length

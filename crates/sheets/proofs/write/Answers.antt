@@ -1,0 +1,32 @@
+-- `sheets::write` meets its contract: head, begins and ends stand one after another. Assumes nothing.
+use mathlib.Core.Path.{◌∙◌}
+use native.Mathlib.Omega.{arith}
+use lib.ListN.{length-set}
+use Rattle.sheets.proofs.Putting.{sheet_put}
+use Rattle.sheets.proofs.write.Goals as goal
+
+pub bounds-out-1 : goal.bounds-out-1
+bounds-out-1 c = simp length-set (omega arith)
+
+pub bounds-out-2 : goal.bounds-out-2
+bounds-out-2 c = simp length-set (omega arith)
+
+pub bounds-out-3 : goal.bounds-out-3
+bounds-out-3 c = simp length-set (omega arith)
+
+pub put_addresses-requires : goal.put_addresses-requires
+put_addresses-requires c = (c.requires.0.0, simp length-set (omega arith))
+
+pub put_addresses-requires-2 : goal.put_addresses-requires-2
+put_addresses-requires-2 c =
+    let p = c.requires in
+    (p.0.1, omega (arith, simp length-set at c.put_addresses.auto.0))
+
+pub shape_of-out : goal.shape_of-out
+shape_of-out c =
+    c.put_addresses-2.auto.0 ∙ (simp length-set at c.put_addresses.auto.0)
+
+pub returns : goal.returns
+returns c =
+    sheet_put c.args.begins.now c.args.ends.now c.args.n c.requires.0 c.args.out.now
+    c.put_addresses.ensures c.put_addresses-2.ensures

@@ -1,0 +1,18 @@
+-- Assumes nothing.
+use native.Mathlib.Omega.{arith}
+use Rattle.stacks.proofs.PlaceLaws.{less_times, halved}
+use borrow.Author.Rules.{rules}
+use Rattle.stacks.proofs.places.half.Goals as goal
+
+-- ?? no goal for this
+-- element-copy-out-less : tie.Need-element-copy-out-smaller
+-- element-copy-out-less c = search rules
+
+pub overflow_mul-result : goal.overflow_mul-result
+overflow_mul-result c = let z = less_times c.less.result c.args.width _ _ c.less.ensures in omega arith
+
+pub overflow_add-result : goal.overflow_add-result
+overflow_add-result c = let z = less_times c.less.result c.args.width _ _ c.less.ensures in let y = c.requires.2.most in omega arith
+
+pub returns : goal.returns
+returns c = let p = c.requires in halved _ _ p.0 _ _ _ p.1 p.2 c.less.ensures
