@@ -21,7 +21,7 @@ use Rattle.section_bytes.proofs.Took.{Took, pick_ind}
 use Rattle.section_bytes.proofs.NoCode.{NoCode, then_no_code, split_no_code, uint_no_code, address_no_code, unsigned_no_code, split_front, uint_front, address_front, unsigned_front}
 use Rattle.entries.specs.Numbers.{itself, by_table, number_by, named}
 use Rattle.entries.specs.Loaded.{fixed_table}
-use Rattle.entries.specs.Forms.{Form, index, number, rangeLength, address, expression, Takes, Raw, indexed, expression_at, versioned_length, block, operand, operands}
+use Rattle.entries.specs.Forms.{Form, index, number, rangeLength, address, expression, Takes, indexed, expression_at, versioned_length, block, operand, operands}
 use Rattle.entries.specs.Kinds.{Kind, endOfList, unknown, kind, range_kinds, kind_of, of_kind, coded, is_end, of_pair, bare, has_kinds, numbered, bare_range, range_entry_by}
 use Rattle.entries.specs.declared.RawRngListEntry.{RawRngListEntry}
 use Rattle.entries.proofs.KindLaws.{no_range_kind, range_coded, range_bare}

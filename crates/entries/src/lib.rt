@@ -1,4 +1,6 @@
 // Raw entries of range lists and location lists: DWARF 5's kinds, split lists up to version 4, bare pairs.
+#![tactic(auto)]
+
 pub mod constants;
 pub mod kinds;
 pub mod loclists;

@@ -1,11 +1,10 @@
 -- A read of bytes is never refused with the number of a code without a kind; and from a place behind a section's first byte it doesn't
 -- look at that byte. Assumes nothing.
-use Rattle.std.proofs.Common.{◌≡◌, ℕ, suc, ◌+◌, Bool, ◌&&◌, eqb, ltb, leb, List, [], ◌∷◌, length, refl, ap, arith}
-use Rattle.section_bytes.specs.Read.{gives, refused, got, Read, read_then, pick}
+use Rattle.std.proofs.Common.{◌≡◌, ℕ, suc, ◌+◌, ◌&&◌, eqb, ltb, leb, List, [], ◌∷◌, length, refl, arith}
+use Rattle.section_bytes.specs.Read.{gives, refused, got, Read, read_then}
 use Rattle.section_bytes.specs.Reader.{skip, uint, split, is_size, address}
 use Rattle.section_bytes.specs.Leb128.{unsigned_from, unsigned}
 use Rattle.section_bytes.specs.declared.endianity.RunTimeEndian.{RunTimeEndian}
-use Rattle.section_bytes.specs.declared.Span.{Span}
 use Rattle.section_bytes.proofs.Took.{pick_ind}
 
 abbrev pub NoCode : {A : Type 0} → Read A → Type 0

@@ -1,5 +1,5 @@
 -- The value of bytes: side by side, the other way round, and its bound.
-use Rattle.std.proofs.Common.{◌≡◌, ℕ, zero, suc, ◌+◌, ◌-◌, ◌*◌, ◌/◌, ◌%◌, ◌^◌, ◌<◌, List, [], ◌∷◌, ◌++◌, reverse, length, get_or, take, drop, refl, ap, ◌∙◌, mod-eq_of_lt, mul_assoc, pow-suc, arith, length-append, drop-cons, drop-drop, take-add, pow-add}
+use Rattle.std.proofs.Common.{◌≡◌, ℕ, zero, suc, ◌+◌, ◌*◌, ◌/◌, ◌%◌, ◌^◌, ◌<◌, List, [], ◌∷◌, ◌++◌, reverse, length, get_or, take, drop, refl, ap, ◌∙◌, mod-eq_of_lt, mul_assoc, pow-suc, arith, length-append, drop-cons, drop-drop, take-add, pow-add}
 use mathlib.Core.List.{reverse-append, reverse-cons}
 use native.Mathlib.Nat.{zero-mod, zero-div, div-eq_of_lt}
 use lib.Arith.{digits_lt, digits_div, digits_mod}

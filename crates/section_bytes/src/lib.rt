@@ -1,4 +1,6 @@
 // Numbers read from lent bytes, and put into them: a place in a section goes in, a value with the place after it comes out.
+#![tactic(auto)]
+
 pub mod address;
 pub mod common;
 pub mod endianity;

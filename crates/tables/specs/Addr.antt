@@ -3,7 +3,6 @@ use Rattle.std.specs.Prelude.{ℕ, ◌+◌, ◌-◌, List, leb, length}
 use Rattle.section_bytes.specs.Read.{Result, gives, refused, got, Read, read_then, pick}
 use Rattle.section_bytes.specs.Error.{refusal}
 use Rattle.section_bytes.specs.Reader.{address, part_of}
-use Rattle.section_bytes.specs.declared.Span.{Span}
 use Rattle.section_bytes.specs.declared.common.DebugAddrBase.{DebugAddrBase}
 use Rattle.section_bytes.specs.declared.common.DebugAddrIndex.{DebugAddrIndex}
 use Rattle.section_bytes.specs.declared.endianity.RunTimeEndian.{RunTimeEndian}

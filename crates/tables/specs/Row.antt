@@ -6,10 +6,8 @@ use Rattle.section_bytes.specs.Error.{refusal}
 use Rattle.section_bytes.specs.Common.{word_size}
 use Rattle.section_bytes.specs.Reader.{skip, word}
 use Rattle.section_bytes.specs.declared.common.Format.{Format}
-use Rattle.section_bytes.specs.declared.common.RangeListsOffset.{RangeListsOffset}
 use Rattle.section_bytes.specs.declared.common.DebugRngListsBase.{DebugRngListsBase}
 use Rattle.section_bytes.specs.declared.common.DebugRngListsIndex.{DebugRngListsIndex}
-use Rattle.section_bytes.specs.declared.common.LocationListsOffset.{LocationListsOffset}
 use Rattle.section_bytes.specs.declared.common.DebugLocListsBase.{DebugLocListsBase}
 use Rattle.section_bytes.specs.declared.common.DebugLocListsIndex.{DebugLocListsIndex}
 use Rattle.section_bytes.specs.declared.endianity.RunTimeEndian.{RunTimeEndian}

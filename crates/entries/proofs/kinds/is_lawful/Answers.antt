@@ -1,7 +1,6 @@
 -- `kinds::is_lawful` meets its contract: the bytes before the one at hand are lawful, and what they leave is known of each kind. Assumes
 -- nothing.
 use mathlib.Core.Path.{sym}
-use Prim.Native.Nat.{◌-◌}
 use native.Mathlib.Omega.{arith}
 use Rattle.entries.proofs.TableLaws.{seen_none, seen_kind, seen_other, seen_twice, seen_wrong, seen_all}
 use Rattle.entries.proofs.kinds.is_lawful.Goals as goal

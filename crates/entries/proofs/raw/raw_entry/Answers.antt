@@ -1,5 +1,4 @@
 -- What is answered for the part from the place on is the section's answer there, in either list. Assumes nothing.
-use borrow.Author.Rules.{rules}
 use Rattle.entries.specs.Numbers.{coding_of}
 use Rattle.entries.specs.Told.{told_location}
 use Rattle.entries.proofs.HeadLaws.{in_end, in_locations, in_ranges}

@@ -1,6 +1,6 @@
 -- Each size has its load; one and three are left. Assumes nothing.
 use Rattle.section_bytes.proofs.ReaderLaws.{odd_size}
-use Rattle.std.proofs.Common.{◌≡◌, ◌%◌, ◌≤◌, ◌∙◌, ⊎_elim, arith}
+use Rattle.std.proofs.Common.{◌≡◌, ◌%◌, ◌≤◌, ◌∙◌, arith}
 use Rattle.section_bytes.proofs.endianity.bytes_value.Goals.{in-Little+else-size-eq8+else-size-eq4+else-size-eq2, in-Big+else-size-eq8-2+else-size-eq4-2+else-size-eq2-2}
 use Rattle.section_bytes.proofs.endianity.bytes_value.Goals as goal
 

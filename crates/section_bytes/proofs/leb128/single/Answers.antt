@@ -1,7 +1,6 @@
 -- `section_bytes::leb128::single` meets its contract: a byte below 128, another one, or none. Assumes nothing.
 use Rattle.std.proofs.Common.{arith}
 use Rattle.section_bytes.proofs.LebLaws.{single_got, single_more, single_past}
-use Rattle.section_bytes.proofs.leb128.single.Reads as reads
 use Rattle.section_bytes.proofs.leb128.single.Goals as goal
 
 pub returns-then-byte-lt128 : goal.returns-then-byte-lt128

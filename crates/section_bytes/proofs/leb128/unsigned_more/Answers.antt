@@ -1,6 +1,6 @@
 -- `section_bytes::leb128::unsigned_more` meets its contract. The loop's invariant: the number's answer is that for the bytes left, with
 -- the bits gathered. The measure is what is left of the section. Assumes nothing.
-use Rattle.std.proofs.Common.{◌-◌, get_or, inl, inr, ⊎_elim, arith}
+use Rattle.std.proofs.Common.{get_or, inl, inr, arith}
 use lib.Bits.{and_le_r}
 use Rattle.section_bytes.proofs.LebLaws.{Lawful, begun, ended, bad, last, next}
 use Rattle.section_bytes.proofs.leb128.unsigned_more.Goals.{Joined-shift-eq63, then-shift-eq63+else-byte-gt1, else-shift-eq63}

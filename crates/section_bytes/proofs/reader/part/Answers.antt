@@ -1,6 +1,6 @@
 -- The tests are those of the definition. Assumes nothing.
 use Rattle.section_bytes.proofs.ReaderLaws.{part_inside, part_outside}
-use Rattle.std.proofs.Common.{◌≡◌, ◌+◌, ◌-◌, sym, arith, rules}
+use Rattle.std.proofs.Common.{◌≡◌, ◌+◌, ◌-◌, sym, arith}
 use Rattle.section_bytes.proofs.reader.part.Goals as goal
 
 pub returns-then-n-offset : goal.returns-then-n-offset
