@@ -169,7 +169,7 @@ fn join(parts: &[&[u8]]) -> Vec<u8> {
 
 fn versions(c: &mut Checks) {
     c.same(version(), VERSION);
-    c.same(VERSION, 11);
+    c.same(VERSION, 10);
     c.same((LIMIT, SHEET_MAX, CANONICAL_MAX), (3000, 48_004, 57_001));
     c.same((MARKS, MOST_ADDRESSES), (8, 64));
 }

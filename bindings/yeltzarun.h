@@ -57,7 +57,7 @@ extern "C" {
 #endif
 
 /* The version of this interface; it changes with every change of a struct, a number, a call or what a call answers. */
-#define YZ_VERSION 11
+#define YZ_VERSION 10
 
 /* The version of the library that is linked; the header is for it where this is YZ_VERSION. */
 uint32_t yz_version(void);

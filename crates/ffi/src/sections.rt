@@ -7,9 +7,9 @@ use ffi_words::common::{YzEncoding, YzPart};
 
 #[unsafe(no_mangle)]
 pub extern "C" fn yz_version() -> u32
-    ensures { result ≡ 11 }
+    ensures { result ≡ 10 }
 {
-    11
+    10
 }
 
 // Of the two sections, the one that has the lists of the unit.
