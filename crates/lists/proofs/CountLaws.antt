@@ -16,7 +16,7 @@ use Rattle.section_bytes.specs.declared.common.Encoding.{Encoding}
 use Rattle.section_bytes.specs.declared.endianity.RunTimeEndian.{RunTimeEndian}
 use Rattle.section_bytes.proofs.Order.{lt_or_le}
 use Rattle.section_bytes.proofs.Took.{pick_ind}
-use Rattle.tables.specs.Next.{Next, ends, hands}
+use Rattle.tables.specs.Next.{Next}
 use Rattle.entries.specs.Forms.{Raw, stop, entry}
 use Rattle.entries.specs.Numbers.{Coding, dwarf, tabled}
 use Rattle.lists.specs.Open.{walk_at, one_more, moved_to, read_to, rebased, opened}

@@ -1,6 +1,6 @@
 -- By a table of kind numbers a range list is walked as it is by DWARF's with its kind bytes renumbered: entry after entry, since behind a
 -- kind byte nothing is renumbered before the next one. Assumes nothing.
-use mathlib.Core.Bool.{Bool, true, false, ◌||◌}
+use mathlib.Core.Bool.{Bool, true, false}
 use mathlib.Core.List.{List, [], ◌∷◌}
 use mathlib.Core.Logic.{⊎_elim}
 use mathlib.Core.Path.{◌≡◌, refl, sym, ap, ◌∙◌, subst, fun_ext}
@@ -9,14 +9,14 @@ use native.Mathlib.Omega.{arith}
 use lib.Dec.{leb, eqb}
 use lib.ListN.{length, get_or, drop, length-drop}
 use lib.Seq.{drop-cons, get_or-drop, ext_get_or}
-use borrow.Author.Tests.{le-leb, lt-leb, leb-true, leb-false, eq-eqb, ne_eqb}
+use borrow.Author.Tests.{le-leb, lt-leb, leb-false, eq-eqb, ne_eqb}
 use Rattle.section_bytes.specs.Read.{Result, gives, refused, Got, got, Read, pick}
 use Rattle.section_bytes.specs.Reader.{is_size}
 use Rattle.section_bytes.specs.declared.common.DebugAddrIndex.{DebugAddrIndex}
 use Rattle.section_bytes.specs.declared.common.Encoding.{Encoding}
 use Rattle.section_bytes.specs.declared.endianity.RunTimeEndian.{RunTimeEndian}
 use Rattle.section_bytes.proofs.Order.{lt_or_le}
-use Rattle.section_bytes.proofs.Took.{Stands, Took, pick_ind}
+use Rattle.section_bytes.proofs.Took.{pick_ind}
 use Rattle.section_bytes.specs.Error.{refusal}
 use Rattle.section_bytes.specs.declared.error.Error.TheVariants.{UnsupportedAddressSize}
 use Rattle.tables.specs.Next.{Next, hands}

@@ -1,5 +1,4 @@
 -- Walks of every address size but 3 are as they were before that one was read. Assumes nothing.
-use mathlib.Core.Path.{◌≡◌, refl}
 use Rattle.section_bytes.proofs.SizeLaws.{asked}
 use Rattle.lists.specs.Open.{opened}
 use Rattle.lists.specs.Walk.{next, next_raw, convert_raw}

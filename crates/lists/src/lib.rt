@@ -1,4 +1,6 @@
 // Walking range lists and location lists: opening, raw entries, conversion, the next range or location.
+#![tactic(auto)]
+
 pub mod convert;
 pub mod count;
 pub mod listed;

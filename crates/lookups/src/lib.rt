@@ -1,5 +1,7 @@
 // The first range of a list that holds an address; in a location list the first bounded one with its expression, and where none
 // does, the first default location.
+#![tactic(auto)]
+
 ghost use Rattle.std.specs.Prelude.{◌≡◌, true, false};
 ghost use Rattle.section_bytes.specs.Common.{is_split};
 ghost use Rattle.section_bytes.specs.Reader.{is_size};

@@ -1,7 +1,7 @@
 -- What marks promise beyond a single call: the statements of docs/SCOPE.md, "Marks". Their proofs are `returns_for` for any calls, and
 -- `Walks-return` and `marks_counted` for those of lists, in proofs/ReturnLaws.antt.
 use Rattle.std.specs.Prelude.{ℕ, ◌<◌, ◌^◌, Bool, true, false, List, [], ◌∷◌, ◌⊎◌, ◌≢◌, ◌≡◌, length}
-use Rattle.section_bytes.specs.Read.{Result, gives, refused}
+use Rattle.section_bytes.specs.Read.{gives, refused}
 use Rattle.entries.specs.Padded.{padded_in}
 use Rattle.lists.specs.Counted.{entries_before}
 use Rattle.lists.specs.Open.{opened}
@@ -9,7 +9,7 @@ use Rattle.lists.specs.Walk.{Listing, listed}
 use Rattle.lists.specs.declared.Walk.{Walk}
 use Rattle.profile.specs.Carried.{EmptiedAt}
 use Rattle.marks.specs.Marks.{Keeping, Marked, fresh, stored}
-use Rattle.marks.specs.Steps.{Reading, Step, reads, sets, returns, Tells, marking, tells, after, run, answers, NoReturn, NotSet, KeptBy}
+use Rattle.marks.specs.Steps.{Reading, Step, reads, sets, returns, marking, tells, after, run, answers, NoReturn, NotSet, KeptBy}
 use Rattle.marks.specs.Calls as call
 use Rattle.marks.specs.Calls.{Source, Call, over}
 use Rattle.marks.specs.Told.{structs}

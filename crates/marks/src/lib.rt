@@ -1,5 +1,7 @@
 // Marks of a walk: setting one stores the walk, returning to it brings the walk back. Neither call takes a section, so that
 // neither reads a byte; whether the address size is one that is read is asked by the next call that reads.
+#![tactic(auto)]
+
 ghost use Rattle.std.specs.Prelude.{◌≡◌};
 ghost use Rattle.section_bytes.specs.Error.{refusal};
 ghost use Rattle.section_bytes.specs.declared.error.Error.TheVariants.{NoSuchMark};

@@ -1,4 +1,6 @@
 // The profile: walks that refuse, beside what the ordinary ones refuse, three things that a compiler is not to write.
+#![tactic(auto)]
+
 pub mod held;
 mod listed;
 

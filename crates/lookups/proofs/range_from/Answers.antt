@@ -1,6 +1,5 @@
 -- Each call of the walk moves the lookup on in one trace; the first entry that holds the address, the end or a refusal is
 -- the answer. Assumes nothing.
-use Prim.Native.Nat.{◌-◌}
 use mathlib.Core.Bool.{false}
 use mathlib.Core.Path.{refl, sym, ap, ◌∙◌}
 use native.Mathlib.Omega.{arith}

@@ -18,7 +18,7 @@ entry_read : (c : In-Entry) → (let a = c.args in
 entry_read c = step_found _ (sym (ap (λ r. step_in c.args.locations (told_location r)) c.in-Entry.is) ∙ c.raw_entry.ensures)
 
 comes-to : (c : After-convert_entry) → (let a = c.args in
-    told_turn c.convert_entry.result ≡ convert (table_at a.endian a.encoding a.debug-addr-base a.debug-addr.now) a.encoding.address_size a.base_address (bounds_in a.locations (entry_in a.locations c.in-Entry.raw)))
+    told_turn c.convert_entry.result ≡ convert (table_at a.endian a.encoding a.debug_addr_base a.debug_addr.now) a.encoding.address_size a.base_address (bounds_in a.locations (entry_in a.locations c.in-Entry.raw)))
 comes-to c = c.convert_entry.ensures ∙ ap (convert _ _ _) (c.bounds_of-bounds.ensures ∙ sym (bounds_in_lem c.args.locations c.in-Entry.raw))
 
 pub returns-then-is_default_in : goal.returns-then-is_default_in

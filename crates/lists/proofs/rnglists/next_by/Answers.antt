@@ -1,7 +1,5 @@
 -- The answer for a list without locations. Assumes nothing.
 use mathlib.Core.Path.{◌∙◌}
-use Rattle.lists.proofs.listed.next.Reads as next-reads
-use Rattle.lists.proofs.rnglists.range_answer.Reads as range-answer-reads
 use Rattle.lists.proofs.rnglists.next_by.Goals as goal
 
 pub returns : goal.returns

@@ -1,7 +1,5 @@
 -- The answer for a list without locations. Assumes nothing.
 use mathlib.Core.Path.{◌∙◌}
-use Rattle.lists.proofs.listed.next_raw.Reads as next-raw-reads
-use Rattle.lists.proofs.rnglists.raw_range_answer.Reads as raw-range-answer-reads
 use Rattle.lists.proofs.rnglists.next_raw.Goals as goal
 
 pub returns : goal.returns

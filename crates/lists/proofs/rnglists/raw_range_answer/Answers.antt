@@ -1,5 +1,4 @@
 -- The entry's bounds are the range's. Assumes nothing.
-use Rattle.entries.proofs.raw.bounds_of.Reads as bounds-of-reads
 use Rattle.lists.proofs.rnglists.raw_range_answer.Goals as goal
 
 pub returns-in-Entry : goal.returns-in-Entry

@@ -29,7 +29,7 @@ returns-in-BaseAddress c = told_of c.args.encoding.address_size (ap (tells _ _ _
 
 pub returns-in-BaseAddressx : goal.returns-in-BaseAddressx
 unfolding tells
-returns-in-BaseAddressx c = selects_kept c.args.encoding.address_size (let a = c.args in table_at a.endian a.encoding a.debug-addr-base a.debug-addr.now c.in-BaseAddressx.field-0) (ap (tells _ _ _) c.in-BaseAddressx.is)
+returns-in-BaseAddressx c = selects_kept c.args.encoding.address_size (let a = c.args in table_at a.endian a.encoding a.debug_addr_base a.debug_addr.now c.in-BaseAddressx.field-0) (ap (tells _ _ _) c.in-BaseAddressx.is)
 
 pub returns-in-Address-r1 : goal.returns-in-Address-r1
 unfolding tells
