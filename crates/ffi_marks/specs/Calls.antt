@@ -4,7 +4,6 @@ use Rattle.std.specs.Prelude.{ℕ, List}
 use Rattle.entries.specs.declared.RawRngListEntry.{RawRngListEntry}
 use Rattle.entries.specs.declared.RawLocListEntry.{RawLocListEntry}
 use Rattle.lists.specs.Walk.{next_range, noted_range, next_range_by, noted_range_by, next_location, noted_location}
-use Rattle.profile.specs.Profile.{profile_range, profile_range_by, profile_location}
 use Rattle.marks.specs.Steps.{Reading}
 use Rattle.ffi_words.specs.Common.{endian_in, encoding_of, Left}
 use Rattle.ffi_words.specs.Entries.{RawTold, raw_range_next, raw_location_next, convert_range, convert_location}
@@ -25,12 +24,9 @@ pub data Call : Type 0 where
   range_next_by : List ℕ → List ℕ → ℕ → YzEncoding → List ℕ → Call
   range_next_raw_by : List ℕ → YzEncoding → List ℕ → Call
   range_convert_raw : List ℕ → ℕ → YzEncoding → YzRangeEntry → Call
-  range_next_in_profile : List ℕ → List ℕ → ℕ → YzEncoding → Call
-  range_next_in_profile_by : List ℕ → List ℕ → ℕ → YzEncoding → List ℕ → Call
   location_next_lem : List ℕ → List ℕ → ℕ → YzEncoding → Call
   location_next_raw : List ℕ → YzEncoding → Call
   location_convert_raw : List ℕ → ℕ → YzEncoding → YzLocationEntry → Call
-  location_next_in_profile : List ℕ → List ℕ → ℕ → YzEncoding → Call
 
 pub data Answer : Type 0 where
   range : Left YzRange → Answer
@@ -48,18 +44,12 @@ answered (range_next_by s table tableBase e kinds) ws =
 answered (range_next_raw_by s e kinds) ws = raw_range (raw_range_next ws (noted_range_by kinds (encoding_of e) (endian_in e) s (walk_in ws)))
 answered (range_convert_raw table tableBase e x) ws =
     range (range_outcome ws (convert_range (encoding_of e) (endian_in e) table (record { 0 = tableBase }) (walk_in ws) x))
-answered (range_next_in_profile s table tableBase e) ws =
-    range (range_next ws (profile_range (encoding_of e) (endian_in e) s table (record { 0 = tableBase }) (walk_in ws)))
-answered (range_next_in_profile_by s table tableBase e kinds) ws =
-    range (range_next ws (profile_range_by kinds (encoding_of e) (endian_in e) s table (record { 0 = tableBase }) (walk_in ws)))
 answered (location_next_lem s table tableBase e) ws =
     location (location_next ws (next_location (split_in ws) (encoding_of e) (endian_in e) s table (record { 0 = tableBase }) (walk_in ws)))
 answered (location_next_raw s e) ws =
     raw_location (raw_location_next ws (noted_location (split_in ws) (encoding_of e) (endian_in e) s (walk_in ws)))
 answered (location_convert_raw table tableBase e x) ws =
     location (location_outcome ws (convert_location (encoding_of e) (endian_in e) table (record { 0 = tableBase }) (walk_in ws) x))
-answered (location_next_in_profile s table tableBase e) ws =
-    location (location_next ws (profile_location (split_in ws) (encoding_of e) (endian_in e) s table (record { 0 = tableBase }) (walk_in ws)))
 
 abbrev pub left_in : Answer → List ℕ
 left_in (range l) = l.lent

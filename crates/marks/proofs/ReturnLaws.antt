@@ -4,9 +4,9 @@ use mathlib.Core.Path.{◌≡◌, refl, sym, ap, ◌∙◌, subst}
 use mathlib.Core.Bool.{Bool, true, false}
 use mathlib.Core.List.{List, [], ◌∷◌}
 use mathlib.Core.Logic.{◌⊎◌, inl, inr, ⊎_elim, ◌≢◌}
-use Prim.Native.Nat.{ℕ, zero, suc, ◌<◌}
+use Prim.Native.Nat.{ℕ, zero, suc, ◌≤◌, ◌<◌}
 use native.Mathlib.Omega.{arith}
-use lib.Dec.{ltb}
+use lib.Dec.{ltb, eqb}
 use lib.ListN.{length, get_or, set, replicate, length-set, length-replicate}
 use lib.Seq.{get_or-set_same, get_or-set_other}
 use borrow.Author.Tests.{lt-ltb, le-ltb}
@@ -14,7 +14,6 @@ use Rattle.section_bytes.specs.Read.{Result, gives, refused, pick}
 use Rattle.section_bytes.specs.Error.{refusal}
 use Rattle.section_bytes.specs.declared.error.Error.TheVariants.{NoSuchMark}
 use Rattle.section_bytes.specs.declared.common.DebugAddrBase.{DebugAddrBase}
-use Rattle.section_bytes.specs.declared.common.DebugAddrIndex.{DebugAddrIndex}
 use Rattle.section_bytes.specs.declared.common.Encoding.{Encoding}
 use Rattle.section_bytes.specs.declared.endianity.RunTimeEndian.{RunTimeEndian}
 use Rattle.entries.specs.Numbers.{Coding}
@@ -22,19 +21,16 @@ use Rattle.entries.specs.Listed.{EntryIn}
 use Rattle.entries.specs.Padded.{padded_in}
 use Rattle.tables.specs.Next.{Next, ends, hands}
 use Rattle.lists.specs.Convert.{table_at}
-use Rattle.lists.specs.Counted as ordinary
-use Rattle.lists.specs.Counted.{left_by, left_after, Reached}
-use Rattle.lists.specs.Walk.{listed, next, next_raw, next_raw_of, noted, convert_raw}
+use Rattle.lists.specs.Counted.{left_by, left_after, Reached, by_opening, by_next, by_next_raw, by_convert_raw}
+use Rattle.lists.specs.Walk.{listed, next_raw_of, noted, convert_raw}
 use Rattle.lists.specs.declared.Walk.{Walk}
 use Rattle.lists.proofs.CountLaws.{listed_counted}
-use Rattle.profile.specs.Carried.{CarriedOn, by_opening, by_next, by_next_raw, by_convert_raw, by_profile}
-use Rattle.profile.proofs.CarriedLaws.{listed_counted_in_profile}
-use Rattle.marks.specs.Marks.{Keeping, Marked, marked, fresh, stored, return_to, answered}
+use Rattle.marks.specs.Marks.{Keeping, Marked, marked, fresh, stored, set_mark, return_to, answered}
 use Rattle.marks.specs.Steps.{Reading, Step, reads, sets, returns, Tells, read, marking, tells, after, run, answers, NoReturn, NotSet, KeptBy}
 use Rattle.marks.specs.Calls as call
 use Rattle.marks.specs.Calls.{Source, over, every}
 use Rattle.marks.specs.Told.{structs}
-use Rattle.marks.specs.Returns.{returned, Holds, Returns, Ordinary, NoProfile, list_in, through, MarksCounted}
+use Rattle.marks.specs.Returns.{returned, Holds, Returns, MarksCounted}
 
 abbrev no : {A : Type 0} → Result A
 no = refusal NoSuchMark
@@ -225,62 +221,27 @@ left_noted p (hands (gives e) w) = refl
 left_noted p (hands (refused k vs) w) = refl
 left_noted p (ends w) = refl
 
--- what ordinary calls keep true of a walk
-module _ (x : Source) (P : Walk → Type 0)
-    (by_next : (table : DebugAddrIndex → Result ℕ) (w : Walk) → P w → P (left_by (next (list_in x) table x.encoding.address_size (length x.section) w)))
-    (by_next_raw : (w : Walk) → P w → P (left_by (next_raw (list_in x) x.encoding.address_size (length x.section) w)))
-    (by_convert_raw : (table : DebugAddrIndex → Result ℕ) (e : EntryIn x.locations) (w : Walk) → P w → P (left_after (convert_raw (list_in x) table x.encoding.address_size w e))) where
-  call_keeps : (c : call.Call x.locations) → Ordinary c → (w : Walk) → P w → P (call.left (call.answer x c w))
-  call_keeps (call.next table tableBase) o w p = by_next (table_at x.endian x.encoding tableBase table) w p
-  call_keeps call.next_raw o w p =
-      subst P
-      (sym (left_noted (padded_in x.locations x.coding x.encoding x.endian x.section w.at) (next_raw_of x.locations x.coding x.encoding x.endian x.section w)))
-      (by_next_raw w p)
-  call_keeps (call.convert_raw table tableBase e) o w p =
-      subst P (sym (converted_as x.locations x.coding x.encoding x.endian x.section table tableBase w e))
-      (by_convert_raw (table_at x.endian x.encoding tableBase table) e w p)
-  call_keeps (call.next_in_profile table tableBase) o w p = absurd o
-
 module _ (x : Source) (offset : ℕ) where
   abbrev From : Walk → Type 0
-  From = Reached x.encoding x.section (list_in x) offset
+  From = Reached x.encoding x.section (listed x.locations x.coding x.encoding x.endian x.section) offset
 
-  steps_from : (ss : List (Step (call.Call x.locations))) → NoProfile ss → KeptBy (over x) From ss
-  steps_from [] h = tt
-  steps_from (reads c ∷ ss) h = (call_keeps x From ordinary.by_next ordinary.by_next_raw ordinary.by_convert_raw c h.0, steps_from ss h.1)
-  steps_from (sets i ∷ ss) h = steps_from ss h
-  steps_from (returns i ∷ ss) h = steps_from ss h
+  call_from : (c : call.Call x.locations) (w : Walk) → From w → From (call.left (call.answer x c w))
+  call_from (call.next table tableBase) w q = by_next (table_at x.endian x.encoding tableBase table) w q
+  call_from call.next_raw w q =
+      subst From
+      (sym (left_noted (padded_in x.locations x.coding x.encoding x.endian x.section w.at) (next_raw_of x.locations x.coding x.encoding x.endian x.section w)))
+      (by_next_raw w q)
+  call_from (call.convert_raw table tableBase e) w q =
+      subst From (sym (converted_as x.locations x.coding x.encoding x.endian x.section table tableBase w e))
+      (by_convert_raw (table_at x.endian x.encoding tableBase table) e w q)
 
-  -- with profile calls among them
-  abbrev CarriedFrom : Walk → Type 0
-  CarriedFrom = CarriedOn x.encoding x.section (list_in x) (padded_in x.locations x.coding x.encoding x.endian x.section) offset
-
-  ordinary_carried : (c : call.Call x.locations) → Ordinary c → (w : Walk) → CarriedFrom w → CarriedFrom (call.left (call.answer x c w))
-  ordinary_carried = call_keeps x CarriedFrom by_next by_next_raw by_convert_raw
-
-  call_carried : (c : call.Call x.locations) (w : Walk) → CarriedFrom w → CarriedFrom (call.left (call.answer x c w))
-  call_carried (call.next table tableBase) = ordinary_carried (call.next table tableBase) tt
-  call_carried call.next_raw = ordinary_carried call.next_raw tt
-  call_carried (call.convert_raw table tableBase e) = ordinary_carried (call.convert_raw table tableBase e) tt
-  call_carried (call.next_in_profile table tableBase) = by_profile (table_at x.endian x.encoding tableBase table)
-
-  steps_carried : (ss : List (Step (call.Call x.locations))) → KeptBy (over x) CarriedFrom ss
-  steps_carried [] = tt
-  steps_carried (reads c ∷ ss) = (call_carried c, steps_carried ss)
-  steps_carried (sets i ∷ ss) = steps_carried ss
-  steps_carried (returns i ∷ ss) = steps_carried ss
-
-through_holds : (x : Source) (P : Walk → Type 0) (w : Walk) → P w → (ss : List (Step (call.Call x.locations))) → KeptBy (over x) P ss → P (through x ss w)
-through_holds x P w p ss q = ((returns_for structs (over x)).passes P (fresh structs w) (fresh_holds structs (over x) P w p) ss q).0
+  steps_from : (ss : List (Step (call.Call x.locations))) → KeptBy (over x) From ss
+  steps_from [] = tt
+  steps_from (reads c ∷ ss) = (call_from c, steps_from ss)
+  steps_from (sets i ∷ ss) = steps_from ss
+  steps_from (returns i ∷ ss) = steps_from ss
 
 pub marks_counted : (x : Source) → MarksCounted x
-marks_counted x =
-    record {
-      exact = λ offset base w short o ss h.
-          (listed_counted x.encoding x.endian x.section offset x.locations x.coding).exact short
-          (through_holds x (From x offset) w (ordinary.by_opening base o) ss (steps_from x offset ss h));
-      in_profile = λ offset base w short o ss.
-          ⊎_elim (λ e. inl e.1) (λ m. inr m)
-          ((listed_counted_in_profile x.locations x.coding x.encoding x.endian x.section offset).exact short
-          (through_holds x (CarriedFrom x offset) w (by_opening base o) ss (steps_carried x offset ss)));
-    }
+marks_counted x offset base w short o ss =
+    (listed_counted x.encoding x.endian x.section offset x.locations x.coding).exact short
+    ((returns_for structs (over x)).passes (From x offset) (fresh structs w) (fresh_holds structs (over x) (From x offset) w (by_opening base o)) ss (steps_from x offset ss)).0

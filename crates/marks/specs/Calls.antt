@@ -11,7 +11,6 @@ use Rattle.entries.specs.Padded.{Noted}
 use Rattle.lists.specs.Counted.{left_by, left_after}
 use Rattle.lists.specs.Walk.{CarriedIn, Item, Outcome, next_of, noted_of, converted_range, converted_location}
 use Rattle.lists.specs.declared.Walk.{Walk}
-use Rattle.profile.specs.Profile.{profile_of}
 use Rattle.marks.specs.Steps.{Reading}
 
 -- a list as its calls are told of it: whether it holds locations, and then how its entries are coded; how it is written; its section. So
@@ -28,7 +27,6 @@ pub data Call (l : Bool) : Type 0 where
   next : List ℕ → DebugAddrBase → Call l
   next_raw : Call l
   convert_raw : List ℕ → DebugAddrBase → EntryIn l → Call l
-  next_in_profile : List ℕ → DebugAddrBase → Call l
 
 pub data Answer (l : Bool) : Type 0 where
   item : Next (Item (CarriedIn l)) Walk → Answer l
@@ -43,7 +41,6 @@ abbrev pub answer : (x : Source) → Call x.locations → Walk → Answer x.loca
 answer x (next table tableBase) w = item (next_of x.locations x.coding x.encoding x.endian x.section table tableBase w)
 answer x next_raw w = raw (noted_of x.locations x.coding x.encoding x.endian x.section w)
 answer x (convert_raw table tableBase e) w = converted (converted_of x.locations x.encoding x.endian table tableBase w e)
-answer x (next_in_profile table tableBase) w = item (profile_of x.locations x.coding x.encoding x.endian x.section table tableBase w)
 
 abbrev pub left : {l : Bool} → Answer l → Walk
 left (item n) = left_by n

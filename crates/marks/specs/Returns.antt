@@ -1,16 +1,13 @@
 -- What marks promise beyond a single call: the statements of docs/SCOPE.md, "Marks". Their proofs are `returns_for` for any calls, and
 -- `Walks-return` and `marks_counted` for those of lists, in proofs/ReturnLaws.antt.
-use Rattle.std.specs.Prelude.{ℕ, ◌<◌, ◌^◌, Bool, true, false, List, [], ◌∷◌, ◌⊎◌, ◌≢◌, ◌≡◌, length}
-use Rattle.section_bytes.specs.Read.{gives, refused}
-use Rattle.entries.specs.Padded.{padded_in}
+use Rattle.std.specs.Prelude.{ℕ, ◌<◌, ◌^◌, Bool, true, false, List, [], ◌∷◌, ◌≢◌, ◌≡◌, length}
+use Rattle.section_bytes.specs.Read.{Result, gives, refused}
 use Rattle.lists.specs.Counted.{entries_before}
 use Rattle.lists.specs.Open.{opened}
-use Rattle.lists.specs.Walk.{Listing, listed}
+use Rattle.lists.specs.Walk.{listed}
 use Rattle.lists.specs.declared.Walk.{Walk}
-use Rattle.profile.specs.Carried.{EmptiedAt}
 use Rattle.marks.specs.Marks.{Keeping, Marked, fresh, stored}
-use Rattle.marks.specs.Steps.{Reading, Step, reads, sets, returns, marking, tells, after, run, answers, NoReturn, NotSet, KeptBy}
-use Rattle.marks.specs.Calls as call
+use Rattle.marks.specs.Steps.{Reading, Step, sets, returns, Tells, marking, tells, after, run, answers, NoReturn, NotSet, KeptBy}
 use Rattle.marks.specs.Calls.{Source, Call, over}
 use Rattle.marks.specs.Told.{structs}
 
@@ -49,35 +46,10 @@ pub record Returns {W M : Type 0} (k : Keeping W M) (r : Reading W) : Type 1 whe
   -- what calls keep true of a walk is true of the walks that marks store and returns bring back
   pub passes : (P : W → Type 0) (m : Marked W M) → Holds k P m → (steps : List (Step r.Call)) → KeptBy r P steps → Holds k P (run k r steps m)
 
--- no profile call among several steps
-abbrev pub Ordinary : {l : Bool} → Call l → Type 0
-Ordinary (call.next table tableBase) = Unit
-Ordinary call.next_raw = Unit
-Ordinary (call.convert_raw table tableBase e) = Unit
-Ordinary (call.next_in_profile table tableBase) = ⊥
-
-abbrev pub NoProfile : {l : Bool} → List (Step (Call l)) → Type 0
-NoProfile [] = Unit
-NoProfile (reads c ∷ ss) = Ordinary c × NoProfile ss
-NoProfile (sets i ∷ ss) = NoProfile ss
-NoProfile (returns i ∷ ss) = NoProfile ss
-
-abbrev pub list_in : Source → Listing
-list_in x = listed x.locations x.coding x.encoding x.endian x.section
-
--- a walk that gets its marks and is taken through several steps
-abbrev pub through : (x : Source) → List (Step (Call x.locations)) → Walk → Walk
-through x steps w = (run structs (over x) steps (fresh structs w)).walk
-
--- the count of a walk that comes from the opening of a list by calls over it, with marks set and returned to
-pub record MarksCounted (x : Source) : Type 0 where
-  -- it is the number of entries that the definition reads before the walk's place (`Counted`, lists/specs/Counted.antt)
-  pub exact : (offset base : ℕ) (w : Walk) → length x.section < 2 ^ 64 → opened x.encoding x.section offset base ≡ gives w
-      → (steps : List (Step (Call x.locations))) → NoProfile steps
-      → (through x steps w).entries ≡ entries_before (list_in x) offset (through x steps w).at
-  -- with profile calls among them it is so, too, or one of them emptied the walk, and the count goes up to and with the entry that was
-  -- refused (`CountedInProfile`, profile/specs/Carried.antt)
-  pub in_profile : (offset base : ℕ) (w : Walk) → length x.section < 2 ^ 64 → opened x.encoding x.section offset base ≡ gives w
-      → (steps : List (Step (Call x.locations)))
-      → ((through x steps w).entries ≡ entries_before (list_in x) offset (through x steps w).at)
-      ⊎ EmptiedAt x.encoding x.section (list_in x) (padded_in x.locations x.coding x.encoding x.endian x.section) offset (through x steps w)
+-- a walk that comes from the opening of a list by calls over it, with marks set and returned to, has counted the entries that the
+-- definition reads before its place (`Counted`, lists/specs/Counted.antt)
+abbrev pub MarksCounted : Source → Type 0
+MarksCounted x = (offset base : ℕ) (w : Walk) → length x.section < 2 ^ 64 → opened x.encoding x.section offset base ≡ gives w
+    → (steps : List (Step (Call x.locations)))
+    → (run structs (over x) steps (fresh structs w)).walk.entries
+    ≡ entries_before (listed x.locations x.coding x.encoding x.endian x.section) offset (run structs (over x) steps (fresh structs w)).walk.at
