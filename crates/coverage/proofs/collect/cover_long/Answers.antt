@@ -12,12 +12,8 @@ returns c =
     let x = source (holding a.locations a.split a.by_table a.kinds.now) a.encoding a.endian a.section.now a.offset.0 a.base_address a.debug_addr.now a.debug_addr_base in
     let b = c.copy.ensures in
     let e = c.copy-2.ensures in
-    let h = c.cover-arg-1.given in
-    let i = c.cover-arg-2-1.given in
-    let j = c.copy-arg-1.given in
-    let k = c.copy-arg-3-1.given in
-    let f = firsts_copied short a.first_begins.now a.first_ends.now c.copy.new.to c.copy-2.new.to (omega (arith, j), omega (arith, k)) (omega (arith, h), omega (arith, i)) b.0 e.0 in
+    let f = firsts_copied short a.first_begins.now a.first_ends.now c.copy.new.to c.copy-2.new.to (omega arith, omega arith) (omega arith, omega arith) b.0 e.0 in
     record {
-      ends_after = c.cover.ensures.ends_after ∙ ap₂ (λ (d : List Range) (n : ℕ). coverage_within d n x) f (omega (arith, h));
-      sized = (c.cover.ensures.sized.0 ∙ omega (arith, h), c.cover.ensures.sized.1 ∙ omega (arith, h));
+      ends_after = c.cover.ensures.ends_after ∙ ap₂ (λ (d : List Range) (n : ℕ). coverage_within d n x) f (omega arith);
+      sized = (c.cover.ensures.sized.0 ∙ omega arith, c.cover.ensures.sized.1 ∙ omega arith);
     }
