@@ -78,6 +78,7 @@ insert_covers b e rs a = (insert_covers→ b e rs a, insert_covers← b e rs a)
 
 -- no address before the first is covered
 pub covers_from : (lo : ℕ) (rs : List Range) (a : ℕ) → From lo rs → Covers rs a → lo ≤ a
+covers_from lo [] a f x = elim x [ ]
 covers_from lo (r ∷ rs) a f (inl i) = omega arith
 covers_from lo (r ∷ rs) a f (inr c) = let h = covers_from (suc r.1) rs a f.2 c in omega arith
 

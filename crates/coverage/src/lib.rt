@@ -1,4 +1,6 @@
 // Coverage of a list: the addresses that it covers, as their longest unbroken runs.
+#![tactic(auto)]
+
 pub mod collect;
 pub mod lawful;
 pub mod place;

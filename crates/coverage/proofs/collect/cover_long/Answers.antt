@@ -9,12 +9,11 @@ use Rattle.coverage.proofs.collect.cover_long.Goals as goal
 pub returns : goal.returns
 returns c =
     let a = c.args in
-    let x = source (holding a.locations a.split a.by_table a.kinds.now) a.encoding a.endian a.section.now a.offset.0 a.base_address a.debug-addr.now a.debug-addr-base in
+    let x = source (holding a.locations a.split a.by_table a.kinds.now) a.encoding a.endian a.section.now a.offset.0 a.base_address a.debug_addr.now a.debug_addr_base in
     let b = c.copy.ensures in
     let e = c.copy-2.ensures in
-    let h = c.cover-arg-1.given in
-    let i = c.cover-arg-2-1.given in
-    let j = c.copy-arg-1.given in
-    let k = c.copy-arg-3-1.given in
-    let f = firsts_copied short a.first_begins.now a.first_ends.now c.copy.new.1.0 c.copy-2.new.1.0 (omega (arith, j), omega (arith, k)) (omega (arith, h), omega (arith, i)) b.0 e.0 in
-    (c.cover.ensures.ends_after ∙ ap₂ (λ (d : List Range) (n : ℕ). coverage_within d n x) f (omega (arith, h)), (c.cover.ensures.sized.0 ∙ omega (arith, h), c.cover.ensures.sized.1 ∙ omega (arith, h)))
+    let f = firsts_copied short a.first_begins.now a.first_ends.now c.copy.new.to c.copy-2.new.to (omega arith, omega arith) (omega arith, omega arith) b.0 e.0 in
+    record {
+      ends_after = c.cover.ensures.ends_after ∙ ap₂ (λ (d : List Range) (n : ℕ). coverage_within d n x) f (omega arith);
+      sized = (c.cover.ensures.sized.0 ∙ omega arith, c.cover.ensures.sized.1 ∙ omega arith);
+    }

@@ -5,6 +5,6 @@ use Rattle.coverage.proofs.collect.cover_short.Goals as goal
 
 pub returns : goal.returns
 returns c =
-    let l : length c.args.begins.now ≡ short = omega (arith, c.cover-arg-1.given) in
+    let l : length c.args.begins.now ≡ short = omega arith in
     let r : length c.args.begins.now - 0 ≡ short = omega (arith, l) in
-    (rw r at c.cover.ensures.ends_after, rw l at c.cover.ensures.sized)
+    record { ends_after = rw r at c.cover.ensures.ends_after; sized = rw l at c.cover.ensures.sized }

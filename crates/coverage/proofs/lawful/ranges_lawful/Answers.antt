@@ -1,8 +1,9 @@
 -- `lawful::ranges_lawful` meets its contract: the ranges from the one at hand on, with the end before it, decide as all of
 -- them do. Assumes nothing.
-use Rattle.std.proofs.Common.{◌-◌, ⊎_elim, arith}
+use Rattle.std.proofs.Common.{◌-◌, arith}
 use Rattle.coverage.proofs.Checked.{checked_start, checked_step, checked_low, checked_empty, checked_high, checked_end}
 use Rattle.coverage.proofs.lawful.ranges_lawful.Goals as goal
+use Rattle.coverage.proofs.lawful.ranges_lawful.Goals.{then-i-gt0+else-begin-last, else-i-gt0}
 
 pub loop-i-init : goal.loop-i-init
 loop-i-init c = let p = c.requires in checked_start p.0 p.1 p.2
@@ -40,7 +41,8 @@ loop-i-smaller c = omega arith
 pub loop-i-preserved : goal.loop-i-preserved
 loop-i-preserved c =
     checked_step c.loop-i.invariant c.loop-i-test.true
-    (⊎_elim (λ w p. w.1.left) (λ w p. absurd (omega arith)) c.if-i-gt0.branch) c.if-end-begin.false (omega (arith, c.if-bound-begin.false, c.min_tombstone-bound.ensures))
+    (λ p. elim c.if-i-gt0.branch [ then-i-gt0+else-begin-last w ↦ w.if-begin-last.false | else-i-gt0 w ↦ absurd (omega arith) ])
+    c.if-end-begin.false (omega (arith, c.if-bound-begin.false, c.min_tombstone-bound.ensures))
 
 pub returns : goal.returns
 returns c = checked_end c.loop-i.invariant c.loop-i-test.false

@@ -7,33 +7,33 @@ use Rattle.coverage.proofs.place.place_list.Goals as goal
 pub clear_past-requires : goal.clear_past-requires
 clear_past-requires c =
     let a = c.args in (
-      whole_few a.begins.now a.ends.now (omega (arith, c.runs_list-arg-1.given), omega (arith, c.runs_list-arg-2-1.given))
-          (source (holding a.locations a.split a.by_table a.kinds.now) a.encoding a.endian a.section.now a.offset.0 a.base_address a.debug-addr.now a.debug-addr-base) c.runs_list.ensures c.in-Got.is,
-      omega (arith, c.clear_past-arg-1.given),
+      whole_few a.begins.now a.ends.now (omega arith, omega arith)
+          (source (holding a.locations a.split a.by_table a.kinds.now) a.encoding a.endian a.section.now a.offset.0 a.base_address a.debug_addr.now a.debug_addr_base) c.runs_list.ensures c.in-Got.is,
+      omega arith,
     )
 
 pub clear_past-requires-in-Got : goal.clear_past-requires-in-Got
 clear_past-requires-in-Got c =
     let a = c.args in (
-      whole_few a.begins.now a.ends.now (omega (arith, c.runs_list-arg-1.given), omega (arith, c.runs_list-arg-2-1.given))
-          (source (holding a.locations a.split a.by_table a.kinds.now) a.encoding a.endian a.section.now a.offset.0 a.base_address a.debug-addr.now a.debug-addr-base) c.runs_list.ensures c.in-Got.is,
-      omega (arith, c.clear_past-arg-in-Got-1.given),
+      whole_few a.begins.now a.ends.now (omega arith, omega arith)
+          (source (holding a.locations a.split a.by_table a.kinds.now) a.encoding a.endian a.section.now a.offset.0 a.base_address a.debug_addr.now a.debug_addr_base) c.runs_list.ensures c.in-Got.is,
+      omega arith,
     )
 
 pub returns-in-Got : goal.returns-in-Got
 returns-in-Got c =
     let a = c.args in
-    whole_got a.begins.now a.ends.now (omega (arith, c.runs_list-arg-1.given), omega (arith, c.runs_list-arg-2-1.given))
-    (source (holding a.locations a.split a.by_table a.kinds.now) a.encoding a.endian a.section.now a.offset.0 a.base_address a.debug-addr.now a.debug-addr-base) c.runs_list.ensures c.in-Got.is c.clear_past.ensures c.clear_past-in-Got.ensures
+    whole_got a.begins.now a.ends.now (omega arith, omega arith)
+    (source (holding a.locations a.split a.by_table a.kinds.now) a.encoding a.endian a.section.now a.offset.0 a.base_address a.debug_addr.now a.debug_addr_base) c.runs_list.ensures c.in-Got.is c.clear_past.ensures c.clear_past-in-Got.ensures
 
 pub returns-in-Full : goal.returns-in-Full
 returns-in-Full c =
     let a = c.args in
-    whole_full a.begins.now a.ends.now (omega (arith, c.runs_list-arg-1.given), omega (arith, c.runs_list-arg-2-1.given))
-    (source (holding a.locations a.split a.by_table a.kinds.now) a.encoding a.endian a.section.now a.offset.0 a.base_address a.debug-addr.now a.debug-addr-base) c.runs_list.ensures c.in-Full.is
+    whole_full a.begins.now a.ends.now (omega arith, omega arith)
+    (source (holding a.locations a.split a.by_table a.kinds.now) a.encoding a.endian a.section.now a.offset.0 a.base_address a.debug_addr.now a.debug_addr_base) c.runs_list.ensures c.in-Full.is
 
 pub returns-in-Refused : goal.returns-in-Refused
 returns-in-Refused c =
     let a = c.args in
-    whole_refused a.begins.now a.ends.now (omega (arith, c.runs_list-arg-1.given), omega (arith, c.runs_list-arg-2-1.given))
-    (source (holding a.locations a.split a.by_table a.kinds.now) a.encoding a.endian a.section.now a.offset.0 a.base_address a.debug-addr.now a.debug-addr-base) c.runs_list.ensures c.in-Refused.e c.in-Refused.is
+    whole_refused a.begins.now a.ends.now (omega arith, omega arith)
+    (source (holding a.locations a.split a.by_table a.kinds.now) a.encoding a.endian a.section.now a.offset.0 a.base_address a.debug_addr.now a.debug_addr_base) c.runs_list.ensures c.in-Refused.e c.in-Refused.is

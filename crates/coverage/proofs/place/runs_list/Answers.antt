@@ -19,8 +19,8 @@ pub put_front-requires : goal.put_front-requires
 put_front-requires c =
     let a = c.args in
     let g = c.cover_short.ensures in
-    let f = told_few [] short (source (holding a.locations a.split a.by_table a.kinds.now) a.encoding a.endian a.section.now a.offset.0 a.base_address a.debug-addr.now a.debug-addr-base) _ _ _ g.0 c.in-All.is in
-    (omega (arith, f, g.1.0), omega (arith, f, g.1.1))
+    let f = told_few [] short (source (holding a.locations a.split a.by_table a.kinds.now) a.encoding a.endian a.section.now a.offset.0 a.base_address a.debug_addr.now a.debug_addr_base) _ _ _ g.ends_after c.in-All.is in
+    (omega (arith, f, g.sized.0), omega (arith, f, g.sized.1))
 
 pub returns-in-All : goal.returns-in-All
 returns-in-All c =
@@ -28,7 +28,7 @@ returns-in-All c =
     let g = c.cover_short.ensures in
     let q = c.in-All.is in
     front_got _ _ _
-    (short_all (source (holding a.locations a.split a.by_table a.kinds.now) a.encoding a.endian a.section.now a.offset.0 a.base_address a.debug-addr.now a.debug-addr-base) (record { section = λ i. omega (arith, c.shared_slice_known-1.given i); table = λ i. omega (arith, c.shared_slice_known-2-1.given i) }) _ _ _ g.0 q)
+    (short_all (source (holding a.locations a.split a.by_table a.kinds.now) a.encoding a.endian a.section.now a.offset.0 a.base_address a.debug_addr.now a.debug_addr_base) (record { section = λ i. omega (arith, c.type_inv.section i); table = λ i. omega (arith, c.type_inv.debug_addr i) }) _ _ _ g.ends_after q)
     c.put_front.ensures
 
 pub returns-in-Full : goal.returns-in-Full
@@ -37,9 +37,9 @@ returns-in-Full c =
     let g = c.cover_short.ensures in
     c.runs_long.ensures
     ∙ ap (λ (r : Result (List Range)). putting r a.begins.now a.ends.now)
-    (sym (short_full (source (holding a.locations a.split a.by_table a.kinds.now) a.encoding a.endian a.section.now a.offset.0 a.base_address a.debug-addr.now a.debug-addr-base) (record { section = λ i. omega (arith, c.shared_slice_known-1.given i); table = λ i. omega (arith, c.shared_slice_known-2-1.given i) }) _ _ _ g.0 g.1.0 c.in-Full.is))
+    (sym (short_full (source (holding a.locations a.split a.by_table a.kinds.now) a.encoding a.endian a.section.now a.offset.0 a.base_address a.debug_addr.now a.debug_addr_base) (record { section = λ i. omega (arith, c.type_inv.section i); table = λ i. omega (arith, c.type_inv.debug_addr i) }) _ _ _ g.ends_after g.sized.0 c.in-Full.is))
 
 pub returns-in-Refused : goal.returns-in-Refused
 returns-in-Refused c =
     let a = c.args in
-    front_refused _ _ _ c.in-Refused.e (short_refused (source (holding a.locations a.split a.by_table a.kinds.now) a.encoding a.endian a.section.now a.offset.0 a.base_address a.debug-addr.now a.debug-addr-base) (record { section = λ i. omega (arith, c.shared_slice_known-1.given i); table = λ i. omega (arith, c.shared_slice_known-2-1.given i) }) _ _ _ c.cover_short.ensures.ends_after c.in-Refused.e c.in-Refused.is)
+    front_refused _ _ _ c.in-Refused.e (short_refused (source (holding a.locations a.split a.by_table a.kinds.now) a.encoding a.endian a.section.now a.offset.0 a.base_address a.debug_addr.now a.debug_addr_base) (record { section = λ i. omega (arith, c.type_inv.section i); table = λ i. omega (arith, c.type_inv.debug_addr i) }) _ _ _ c.cover_short.ensures.ends_after c.in-Refused.e c.in-Refused.is)
