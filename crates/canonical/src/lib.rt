@@ -1,4 +1,6 @@
 // The canonical list of a coverage, written into lent bytes.
+#![tactic(auto)]
+
 pub mod form;
 pub mod of_list;
 

@@ -1,4 +1,6 @@
 // Sheets: a coverage written into lent bytes, and read from them.
+#![tactic(auto)]
+
 ghost use Rattle.std.specs.Prelude.{◌≡◌, ◌+◌, ◌*◌, ◌≤◌, length, take, drop};
 ghost use Rattle.std.proofs.lemmas.List.Edits.{sets};
 ghost use Rattle.section_bytes.specs.Endianity.{little};

@@ -7,7 +7,7 @@ use Rattle.canonical.proofs.Entries.{writing_start, writing_room, writing_here, 
 use Rattle.canonical.proofs.write.Goals as goal
 
 pub loop-i-init : goal.loop-i-init
-loop-i-init c = writing_start c.requires.0 c.requires.1
+loop-i-init c = writing_start c.requires.arrays c.requires.ends_in_bounds
 
 pub offset_bounds-begins-i : goal.offset_bounds-begins-i
 offset_bounds-begins-i c = omega arith
@@ -42,7 +42,7 @@ overflow_sub-end c =
 
 pub put_unsigned-at-requires : goal.put_unsigned-at-requires
 put_unsigned-at-requires c =
-    omega (arith, writing_room c.loop-i.invariant c.loop-i-test.true, simp length-set at c.put_u64.auto.0)
+    omega (arith, writing_room c.loop-i.invariant c.loop-i-test.true, simp length-set at c.put_u64.auto.out)
 
 pub overflow_add-i : goal.overflow_add-i
 overflow_add-i c = omega arith
@@ -69,4 +69,4 @@ pub shape_of-out : goal.shape_of-out
 shape_of-out c = simp length-set c.loop-i.invariant.long
 
 pub returns : goal.returns
-returns c = writing_end c.loop-i.invariant c.loop-i-test.false
+returns c = let e = writing_end c.loop-i.invariant c.loop-i-test.false in record { value = e.0; out_after = e.1 }

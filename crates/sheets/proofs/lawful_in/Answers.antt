@@ -1,8 +1,8 @@
 -- The ranges from the one at hand on, with the end before it, decide as all of them do. Assumes nothing.
-use mathlib.Core.Logic.{⊎_elim}
 use Prim.Native.Nat.{◌-◌}
 use native.Mathlib.Omega.{arith}
 use Rattle.sheets.proofs.Tested.{tested_start, tested_step, tested_low, tested_empty, tested_high, tested_end}
+use Rattle.sheets.proofs.lawful_in.Goals.{then-i-gt0+else-begin-last, else-i-gt0}
 use Rattle.sheets.proofs.lawful_in.Goals as goal
 
 pub overflow_mul-ends : goal.overflow_mul-ends
@@ -57,7 +57,7 @@ pub loop-i-preserved : goal.loop-i-preserved
 loop-i-preserved c =
     tested_step c.args.bytes.now c.loop-i.invariant c.loop-i-test.true
     c.address-begin.ensures c.address-end.ensures
-    (⊎_elim (λ w p. w.1.left) (λ w p. absurd (omega arith)) c.if-i-gt0.branch) c.if-end-begin.false
+    (elim c.if-i-gt0.branch [ then-i-gt0+else-begin-last w ↦ λ _. w.if-begin-last.false | else-i-gt0 w ↦ λ h. absurd (omega arith) ]) c.if-end-begin.false
     (omega (arith, c.if-bound-begin.false, c.min_tombstone-bound.ensures))
 
 pub returns : goal.returns

@@ -1,6 +1,5 @@
 -- Each test is a part of the test for a sheet; the addresses are written after the last. Assumes nothing.
 use mathlib.Core.Path.{sym, ◌∙◌}
-use borrow.Author.Tests.{not_true, not-false}
 use Rattle.sheets.proofs.Answers.{Headed, no_head, too_many, other_width, other_length, not_lawful, not_placed, placed_sheet}
 use Rattle.sheets.proofs.place_sheet.Goals.{After-lawful_in}
 use Rattle.sheets.proofs.place_sheet.Goals as goal
@@ -35,10 +34,10 @@ returns-then-len-n c =
 pub returns-then-not-lawful_in : goal.returns-then-not-lawful_in
 returns-then-not-lawful_in c =
     let a = c.args in
-    not_placed a.begins.now a.ends.now (not_lawful (headed l) (sym c.lawful_in.ensures ∙ not_true _ c.if-not-lawful_in.true))
+    not_placed a.begins.now a.ends.now (not_lawful (headed (goal.at.returns-then-not-lawful_in c).After-lawful_in) (sym c.lawful_in.ensures ∙ c.if-not-lawful_in.true))
 
 pub returns : goal.returns
 returns c =
     let a = c.args in
-    placed_sheet (headed l) (sym c.lawful_in.ensures ∙ not-false _ c.if-not-lawful_in.false) a.begins.now a.ends.now
+    placed_sheet (headed (goal.at.returns c).After-lawful_in) (sym c.lawful_in.ensures ∙ c.if-not-lawful_in.false) a.begins.now a.ends.now
     c.get_addresses.ensures c.get_addresses-2.ensures

@@ -20,11 +20,11 @@ put_addresses-requires c = (c.requires.0.0, simp length-set (omega arith))
 pub put_addresses-requires-2 : goal.put_addresses-requires-2
 put_addresses-requires-2 c =
     let p = c.requires in
-    (p.0.1, omega (arith, simp length-set at c.put_addresses.auto.0))
+    (p.0.1, omega (arith, simp length-set at c.put_addresses.auto.out))
 
 pub shape_of-out : goal.shape_of-out
 shape_of-out c =
-    c.put_addresses-2.auto.0 ∙ (simp length-set at c.put_addresses.auto.0)
+    c.put_addresses-2.auto.out ∙ (simp length-set at c.put_addresses.auto.out)
 
 pub returns : goal.returns
 returns c =

@@ -33,7 +33,7 @@ pub overflow_add-result : goal.overflow_add-result
 overflow_add-result c = let b = rw c.if-is_range.true at c.is_range.ensures in omega (arith, b.2)
 
 pub returns-then-is_range : goal.returns-then-is_range
-returns-then-is_range c = (rw c.if-is_range.true at c.is_range.ensures, entry_is _ _ (sym c.read_u8.ensures ∙ ap told c.in-Got.is) c.if-code-ne-DW_RLE_start_length.false (sym c.read_u64.ensures ∙ ap told c.in-Got-read_u64.is) (sym c.unsigned.ensures ∙ ap told c.in-Got-unsigned.is) (λ i. omega (arith, c.shared_slice_known-1.given i)) (let s = c.unsigned_size.ensures in omega (arith, c.if-unsigned_size-c2.false)))
+returns-then-is_range c = (rw c.if-is_range.true at c.is_range.ensures, entry_is _ _ (sym c.read_u8.ensures ∙ ap told c.in-Got.is) c.if-code-ne-DW_RLE_start_length.false (sym c.read_u64.ensures ∙ ap told c.in-Got-read_u64.is) (sym c.unsigned.ensures ∙ ap told c.in-Got-unsigned.is) (λ i. omega (arith, c.type_inv.bytes i)) (let s = c.unsigned_size.ensures in omega (arith, c.if-unsigned_size-c2.false)))
 
 pub returns : goal.returns
 returns c = neither_range _ _ (sym c.read_u8.ensures ∙ ap told c.in-Got.is) c.if-code-ne-DW_RLE_start_length.false (sym c.read_u64.ensures ∙ ap told c.in-Got-read_u64.is) (sym c.unsigned.ensures ∙ ap told c.in-Got-unsigned.is) (rw c.if-is_range.false at c.is_range.ensures)
