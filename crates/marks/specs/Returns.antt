@@ -1,5 +1,5 @@
 -- What marks promise beyond a single call: the statements of docs/SCOPE.md, "Marks". Their proofs are `returns_for` for any calls, and
--- `Walks-return` and `marks_counted` for those of lists, in proofs/ReturnLaws.antt.
+-- `walks_return` and `marks_counted` for those of lists, in proofs/ReturnLaws.antt.
 use Rattle.std.specs.Prelude.{ℕ, ◌<◌, ◌^◌, Bool, true, false, List, [], ◌∷◌, ◌≢◌, ◌≡◌, length}
 use Rattle.section_bytes.specs.Read.{Result, gives, refused}
 use Rattle.lists.specs.Counted.{entries_before}
