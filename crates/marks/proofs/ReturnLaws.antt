@@ -4,9 +4,9 @@ use mathlib.Core.Path.{◌≡◌, refl, sym, ap, ◌∙◌, subst}
 use mathlib.Core.Bool.{Bool, true, false}
 use mathlib.Core.List.{List, [], ◌∷◌}
 use mathlib.Core.Logic.{◌⊎◌, inl, inr, ⊎_elim, ◌≢◌}
-use Prim.Native.Nat.{ℕ, zero, suc, ◌≤◌, ◌<◌}
+use Prim.Native.Nat.{ℕ, zero, suc, ◌<◌}
 use native.Mathlib.Omega.{arith}
-use lib.Dec.{ltb, eqb}
+use lib.Dec.{ltb}
 use lib.ListN.{length, get_or, set, replicate, length-set, length-replicate}
 use lib.Seq.{get_or-set_same, get_or-set_other}
 use borrow.Author.Tests.{lt-ltb, le-ltb}
@@ -25,7 +25,7 @@ use Rattle.lists.specs.Counted.{left_by, left_after, Reached, by_opening, by_nex
 use Rattle.lists.specs.Walk.{listed, next_raw_of, noted, convert_raw}
 use Rattle.lists.specs.declared.Walk.{Walk}
 use Rattle.lists.proofs.CountLaws.{listed_counted}
-use Rattle.marks.specs.Marks.{Keeping, Marked, marked, fresh, stored, set_mark, return_to, answered}
+use Rattle.marks.specs.Marks.{Keeping, Marked, marked, fresh, stored, return_to, answered}
 use Rattle.marks.specs.Steps.{Reading, Step, reads, sets, returns, Tells, read, marking, tells, after, run, answers, NoReturn, NotSet, KeptBy}
 use Rattle.marks.specs.Calls as call
 use Rattle.marks.specs.Calls.{Source, over, every}

@@ -1,13 +1,13 @@
 -- What marks promise beyond a single call: the statements of docs/SCOPE.md, "Marks". Their proofs are `returns_for` for any calls, and
 -- `walks_return` and `marks_counted` for those of lists, in proofs/ReturnLaws.antt.
-use Rattle.std.specs.Prelude.{ℕ, ◌<◌, ◌^◌, Bool, true, false, List, [], ◌∷◌, ◌≢◌, ◌≡◌, length}
-use Rattle.section_bytes.specs.Read.{Result, gives, refused}
+use Rattle.std.specs.Prelude.{ℕ, ◌<◌, ◌^◌, true, false, List, [], ◌≢◌, ◌≡◌, length}
+use Rattle.section_bytes.specs.Read.{gives, refused}
 use Rattle.lists.specs.Counted.{entries_before}
 use Rattle.lists.specs.Open.{opened}
 use Rattle.lists.specs.Walk.{listed}
 use Rattle.lists.specs.declared.Walk.{Walk}
 use Rattle.marks.specs.Marks.{Keeping, Marked, fresh, stored}
-use Rattle.marks.specs.Steps.{Reading, Step, sets, returns, Tells, marking, tells, after, run, answers, NoReturn, NotSet, KeptBy}
+use Rattle.marks.specs.Steps.{Reading, Step, sets, returns, marking, tells, after, run, answers, NoReturn, NotSet, KeptBy}
 use Rattle.marks.specs.Calls.{Source, Call, over}
 use Rattle.marks.specs.Told.{structs}
 
