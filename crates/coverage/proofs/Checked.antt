@@ -1,5 +1,5 @@
 -- The test of a coverage's ranges one by one: what is left decides as all of them do. Assumes nothing.
-use Rattle.std.proofs.Common.{◌≡◌, ℕ, suc, ◌+◌, ◌-◌, ◌<◌, ◌≤◌, Bool, true, false, T, List, ◌∷◌, length, get_or, drop, sym, refl, ap, ◌∙◌, subst, ⊎_elim, arith}
+use Rattle.std.proofs.Common.{◌≡◌, ℕ, suc, ◌+◌, ◌<◌, ◌≤◌, Bool, true, false, T, List, ◌∷◌, length, get_or, drop, sym, refl, ap, ◌∙◌, subst, ⊎_elim, arith}
 use Rattle.section_bytes.specs.Address.{min_tombstone}
 use Rattle.coverage.specs.Ranges.{Range, Apart, limit}
 use Rattle.coverage.specs.Kept.{firsts, ranges_of, lawful_from, is_lawful}

@@ -27,7 +27,7 @@ use Rattle.lists.proofs.CallLaws.{next_ahead}
 use Rattle.lists.proofs.CountLaws.{trace_uncounted_lem}
 use Rattle.coverage.specs.Ranges.{Range, Covers, Apart, limit, runs}
 use Rattle.coverage.specs.Covered.{yielded_in, Holds, range_list, range_list_by, location_list, holding, Source, source, listing, trace_of, coverage_of, Bytes}
-use Rattle.coverage.specs.Kept.{paired, firsts, ends}
+use Rattle.coverage.specs.Kept.{paired, firsts}
 use Rattle.coverage.specs.Gathered.{short, Stored, Within, all, full, in_front, within, nonempty, covering, coverage_within, list_from, or_too_many, told_gathered}
 use Rattle.coverage.specs.Sorted.{Sized, AtLeast, Copied, ToRuns}
 use Rattle.coverage.specs.declared.collect.Gathered.{Gathered}

@@ -1,5 +1,5 @@
 -- Each call of the walk hands out a range, which is stored behind those gathered, or ends the gathering. Assumes nothing.
-use Rattle.std.proofs.Common.{◌-◌, sym, refl, ap, ◌∙◌, arith}
+use Rattle.std.proofs.Common.{sym, refl, ap, ◌∙◌, arith}
 use Rattle.entries.specs.Numbers.{coding_of}
 use Rattle.lists.specs.Walk.{next_in, told_next_location}
 use Rattle.lists.proofs.Past.{listed_past}

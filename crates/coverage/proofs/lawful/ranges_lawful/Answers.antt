@@ -1,6 +1,6 @@
 -- `lawful::ranges_lawful` meets its contract: the ranges from the one at hand on, with the end before it, decide as all of
 -- them do. Assumes nothing.
-use Rattle.std.proofs.Common.{◌-◌, arith}
+use Rattle.std.proofs.Common.{arith}
 use Rattle.coverage.proofs.Checked.{checked_start, checked_step, checked_low, checked_empty, checked_high, checked_end}
 use Rattle.coverage.proofs.lawful.ranges_lawful.Goals as goal
 use Rattle.coverage.proofs.lawful.ranges_lawful.Goals.{then-i-gt0+else-begin-last, else-i-gt0}

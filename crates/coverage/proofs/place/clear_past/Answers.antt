@@ -1,5 +1,5 @@
 -- The zeros still to be put, over what stands there now, are the same all along. Assumes nothing.
-use Rattle.std.proofs.Common.{◌-◌, arith}
+use Rattle.std.proofs.Common.{arith}
 use Rattle.coverage.proofs.PlaceLaws.{clearing_none, clearing_more, clearing_done}
 use Rattle.coverage.proofs.place.clear_past.Goals as goal
 
