@@ -21,6 +21,7 @@ use section_bytes::endianity::RunTimeEndian;
 use section_bytes::error::Error;
 
 // The first n ranges, put at the front of what a caller lends; where that is shorter, 11.
+#[tactic(auto, using(crate::proofs::PlaceLaws::front_short, crate::proofs::PlaceLaws::front_short_ends))]
 fn put_front(n: usize, bs: &[u64], es: &[u64], begins: &mut [u64], ends: &mut [u64]) -> Collected
     requires { AtLeast n bs.now es.now }
     ensures { placed (told_count result) begins.new ends.new ≡ putting (gives (firsts n bs.now es.now)) begins.old ends.old }
