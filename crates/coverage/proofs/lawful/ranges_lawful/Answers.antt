@@ -8,18 +8,6 @@ use Rattle.coverage.proofs.lawful.ranges_lawful.Goals.{then-i-gt0+else-begin-las
 pub loop-i-init : goal.loop-i-init
 loop-i-init c = let p = c.requires in checked_start p.0 p.1 p.2
 
-pub offset_bounds-begins-i : goal.offset_bounds-begins-i
-offset_bounds-begins-i c = omega arith
-
-pub bounds-begins-i : goal.bounds-begins-i
-bounds-begins-i c = omega arith
-
-pub offset_bounds-ends-i : goal.offset_bounds-ends-i
-offset_bounds-ends-i c = omega arith
-
-pub bounds-ends-i : goal.bounds-ends-i
-bounds-ends-i c = omega arith
-
 pub returns-then-begin-last : goal.returns-then-begin-last
 returns-then-begin-last c =
     checked_low c.loop-i.invariant c.loop-i-test.true c.if-i-gt0.true c.if-begin-last.true
@@ -31,12 +19,6 @@ returns-then-end-begin c =
 pub returns-then-bound-begin : goal.returns-then-bound-begin
 returns-then-bound-begin c =
     checked_high c.loop-i.invariant c.loop-i-test.true (omega (arith, c.if-bound-begin.true, c.min_tombstone-bound.ensures))
-
-pub overflow_add-i : goal.overflow_add-i
-overflow_add-i c = omega arith
-
-pub loop-i-smaller : goal.loop-i-smaller
-loop-i-smaller c = omega arith
 
 pub loop-i-preserved : goal.loop-i-preserved
 loop-i-preserved c =

@@ -6,18 +6,6 @@ use Rattle.coverage.proofs.place.clear_past.Goals as goal
 pub loop-i-init : goal.loop-i-init
 loop-i-init c = clearing_none c.requires.0 c.requires.1
 
-pub offset_bounds-to-i : goal.offset_bounds-to-i
-offset_bounds-to-i c = omega arith
-
-pub bounds-to-i : goal.bounds-to-i
-bounds-to-i c = omega arith
-
-pub overflow_add-i : goal.overflow_add-i
-overflow_add-i c = omega arith
-
-pub loop-i-smaller : goal.loop-i-smaller
-loop-i-smaller c = omega arith
-
 pub loop-i-preserved : goal.loop-i-preserved
 loop-i-preserved c = clearing_more c.loop-i.invariant c.loop-i-test.true
 
