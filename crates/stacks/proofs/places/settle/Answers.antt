@@ -1,5 +1,5 @@
 -- From place to place, to those that wait. Assumes nothing.
-use Prim.Native.Nat.{◌-◌, ◌≤◌, ◌<◌}
+use Prim.Native.Nat.{◌≤◌, ◌<◌}
 use native.Mathlib.Omega.{arith}
 use Rattle.stacks.specs.Places.{at}
 use Rattle.stacks.proofs.PlaceLaws.{above_met, above_not_met}
