@@ -1,4 +1,6 @@
 // Reads, headers, tables, sections and sheets, for C and Rust.
+#![tactic(auto)]
+
 pub mod coverages;
 pub mod headers;
 pub mod reads;

@@ -1,4 +1,6 @@
 // Coverage, its runs alone, and canonical list of a range list by a table of kind numbers.
+#![tactic(auto)]
+
 ghost use Rattle.std.specs.Prelude.{◌≡◌};
 ghost use Rattle.coverage.specs.Covered.{range_list_by, source, coverage_of};
 ghost use Rattle.canonical.specs.Canonical.{canonical_of};

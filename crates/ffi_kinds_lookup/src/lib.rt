@@ -1,4 +1,6 @@
 // Lookup in a range list by a table of kind numbers.
+#![tactic(auto)]
+
 ghost use Rattle.std.specs.Prelude.{◌≡◌};
 ghost use Rattle.lookups.specs.Lookup.{lookup_range_by};
 ghost use Rattle.ffi_words.specs.Common.{endian_in, encoding_of};

@@ -1,4 +1,6 @@
 // Raw entries of range lists by a table of kind numbers.
+#![tactic(auto)]
+
 ghost use Rattle.std.specs.Prelude.{◌≡◌};
 ghost use Rattle.lists.specs.Walk.{noted_range_by};
 ghost use Rattle.ffi_words.specs.Common.{endian_in, encoding_of, left};

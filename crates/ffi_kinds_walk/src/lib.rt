@@ -1,4 +1,6 @@
 // Tables of kind numbers, and walks of range lists by them.
+#![tactic(auto)]
+
 ghost use Rattle.std.specs.Prelude.{◌≡◌};
 ghost use Rattle.entries.specs.Numbers.{loading};
 ghost use Rattle.lists.specs.Walk.{next_range_by};

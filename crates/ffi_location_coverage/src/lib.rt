@@ -1,4 +1,6 @@
 // Coverage, its runs alone, and canonical list of a location list. The list of a .dwo file is split.
+#![tactic(auto)]
+
 ghost use Rattle.std.specs.Prelude.{◌≡◌};
 ghost use Rattle.coverage.specs.Covered.{location_list, source, coverage_of};
 ghost use Rattle.canonical.specs.Canonical.{canonical_of};

@@ -1,4 +1,6 @@
 // Lookup in a location list.
+#![tactic(auto)]
+
 ghost use Rattle.std.specs.Prelude.{◌≡◌};
 ghost use Rattle.lookups.specs.Lookup.{lookup_location};
 ghost use Rattle.ffi_words.specs.Common.{endian_in, encoding_of, is_set};

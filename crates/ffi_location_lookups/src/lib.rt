@@ -1,4 +1,6 @@
 // Lookups of many addresses in a location list.
+#![tactic(auto)]
+
 ghost use Rattle.std.specs.Prelude.{◌≡◌};
 ghost use Rattle.ffi_words.specs.Common.{endian_in, encoding_of, is_set};
 ghost use Rattle.stacks.specs.Stack.{counted, counted_of, lookup_locations};

@@ -1,4 +1,6 @@
 // Raw entries of location lists, and what they come to.
+#![tactic(auto)]
+
 ghost use Rattle.std.specs.Prelude.{◌≡◌};
 ghost use Rattle.lists.specs.Walk.{noted_location};
 ghost use Rattle.ffi_words.specs.Common.{endian_in, encoding_of, left};

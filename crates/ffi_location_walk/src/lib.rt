@@ -1,4 +1,6 @@
 // Walks of location lists.
+#![tactic(auto)]
+
 ghost use Rattle.std.specs.Prelude.{◌≡◌};
 ghost use Rattle.lists.specs.Open.{opened};
 ghost use Rattle.lists.specs.Walk.{next_location};

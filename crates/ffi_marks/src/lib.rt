@@ -1,4 +1,6 @@
 // Marks of a walk: eight marks in lent words, and the walk in its own.
+#![tactic(auto)]
+
 ghost use Rattle.std.specs.Prelude.{◌≡◌};
 ghost use Rattle.marks.specs.Marks.{marked, set_mark, return_to};
 ghost use Rattle.ffi_words.specs.Common.{left};

@@ -1,4 +1,6 @@
 // Coverage, its runs alone, and canonical list of a range list, and the coverage that a canonical list tells.
+#![tactic(auto)]
+
 ghost use Rattle.std.specs.Prelude.{◌≡◌, []};
 ghost use Rattle.section_bytes.specs.declared.common.Format.TheVariants.{Dwarf32};
 ghost use Rattle.coverage.specs.Covered.{range_list, source, coverage_of, read_back};

@@ -1,4 +1,6 @@
 // Lookup in a range list.
+#![tactic(auto)]
+
 ghost use Rattle.std.specs.Prelude.{◌≡◌};
 ghost use Rattle.lookups.specs.Lookup.{lookup_range};
 ghost use Rattle.ffi_words.specs.Common.{endian_in, encoding_of};

@@ -1,4 +1,6 @@
 // Lookups of many addresses in a range list.
+#![tactic(auto)]
+
 ghost use Rattle.std.specs.Prelude.{◌≡◌};
 ghost use Rattle.ffi_words.specs.Common.{endian_in, encoding_of};
 ghost use Rattle.stacks.specs.Stack.{counted, counted_of, lookup_ranges};

@@ -1,4 +1,6 @@
 // Profile walks of range lists.
+#![tactic(auto)]
+
 ghost use Rattle.std.specs.Prelude.{◌≡◌};
 ghost use Rattle.profile.specs.Profile.{profile_range};
 ghost use Rattle.ffi_words.specs.Common.{endian_in, encoding_of, left};

@@ -1,6 +1,5 @@
 -- What a call over the C interface is told of a unit, what it comes to, and what it leaves in the words or bytes that it is lent.
 use Rattle.std.specs.Prelude.{ℕ, Bool, true, false, List, eqb, get_or}
-use Rattle.section_bytes.specs.Error.{refusal}
 use Rattle.section_bytes.specs.Read.{Result, gives, refused, pick}
 use Rattle.section_bytes.specs.declared.common.DwarfFileType.{DwarfFileType}
 use Rattle.section_bytes.specs.declared.common.DwarfFileType.TheVariants.{Main, Dwo}

@@ -9,6 +9,8 @@
 // them at the front of two slices of any length, and leave the other places as they were; to calls that take one, what stands
 // past the count makes no difference. A refused call leaves the arrays and the output as they were. What a call writes to shares
 // no byte with anything else that it is lent.
+#![tactic(auto)]
+
 pub mod common;
 pub mod coverages;
 pub mod headers;

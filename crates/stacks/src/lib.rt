@@ -1,4 +1,6 @@
 // Up to 64 addresses looked up in one reading of a list: each gets the answer that it would get by itself.
+#![tactic(auto)]
+
 pub mod answers;
 pub mod places;
 

@@ -2,9 +2,6 @@
 use mathlib.Core.Path.{sym, ap, ◌∙◌}
 use Rattle.entries.specs.Numbers.{told_loading}
 use Rattle.ffi_words.specs.Common.{done_or_refused}
-use Rattle.entries.proofs.kinds.load.Reads as load-reads
-use Rattle.ffi_words.proofs.common.comes_to.Reads as comes-to-reads
-use Rattle.ffi_words.proofs.common.refused.Reads as refused-reads
 use Rattle.ffi_kinds_walk.proofs.yz_kinds_load.Goals as goal
 
 pub returns-in-Loaded : goal.returns-in-Loaded

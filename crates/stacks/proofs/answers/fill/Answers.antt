@@ -1,5 +1,4 @@
 -- Each place that waits, one after the other. Assumes nothing.
-use Prim.Native.Nat.{◌-◌}
 use native.Mathlib.Omega.{arith}
 use mathlib.Core.Path.{ap, ◌∙◌}
 use Rattle.ffi_words.specs.Locations.{location_found}

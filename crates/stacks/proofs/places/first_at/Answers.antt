@@ -1,7 +1,6 @@
 -- Assumes nothing.
 use native.Mathlib.Omega.{arith}
 use Rattle.stacks.proofs.PlaceLaws.{at_start, at_last, less_one}
-use borrow.Author.Rules.{rules}
 use Rattle.stacks.proofs.places.first_at.Goals as goal
 
 pub half-k32-requires : goal.half-k32-requires

@@ -1,7 +1,6 @@
 -- Assumes nothing.
 use native.Mathlib.Omega.{arith}
 use Rattle.stacks.proofs.PlaceLaws.{less_times, halved}
-use borrow.Author.Rules.{rules}
 use Rattle.stacks.proofs.places.half.Goals as goal
 
 -- ?? no goal for this

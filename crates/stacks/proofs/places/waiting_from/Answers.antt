@@ -1,5 +1,4 @@
 -- From place to place that has its answer. Assumes nothing.
-use Prim.Native.Nat.{◌-◌}
 use native.Mathlib.Omega.{arith}
 use Rattle.stacks.proofs.PlaceLaws.{hopped}
 use Rattle.stacks.proofs.places.waiting_from.Goals as goal
