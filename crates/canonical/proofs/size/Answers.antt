@@ -1,5 +1,4 @@
 -- `canonical::size` meets its contract: the bytes counted, with those of the ranges left, are all of them. Assumes nothing.
-use Prim.Native.Nat.{◌-◌}
 use native.Mathlib.Omega.{arith}
 use Rattle.canonical.proofs.Entries.{counting_start, counting_step, counting_end, over_proper}
 use Rattle.canonical.proofs.size.Goals as goal

@@ -1,6 +1,5 @@
 -- `canonical::write` meets its contract: the bytes of the ranges left, over those that stand there now, are the same all along.
 -- Assumes nothing.
-use Prim.Native.Nat.{◌-◌}
 use native.Mathlib.Omega.{arith}
 use lib.ListN.{length-set}
 use Rattle.canonical.proofs.Entries.{writing_start, writing_room, writing_here, writing_begin, writing_step, writing_end, over_proper, writing_small}

@@ -1,6 +1,5 @@
 -- `sheets::get_addresses` meets its contract: the addresses still to be read, over the numbers that stand there now, are the same
 -- all along. Assumes nothing.
-use Prim.Native.Nat.{◌-◌}
 use native.Mathlib.Omega.{arith}
 use Rattle.sheets.proofs.Getting.{getting_start, getting_step, getting_end}
 use Rattle.sheets.proofs.get_addresses.Goals as goal

@@ -1,5 +1,4 @@
 -- The ranges from the one at hand on, with the end before it, decide as all of them do. Assumes nothing.
-use Prim.Native.Nat.{◌-◌}
 use native.Mathlib.Omega.{arith}
 use Rattle.sheets.proofs.Tested.{tested_start, tested_step, tested_low, tested_empty, tested_high, tested_end}
 use Rattle.sheets.proofs.lawful_in.Goals.{then-i-gt0+else-begin-last, else-i-gt0}

@@ -1,6 +1,5 @@
 -- `sheets::put_addresses` meets its contract: the addresses still to be written, over the bytes that stand there now, are the
 -- same all along. Assumes nothing.
-use Prim.Native.Nat.{◌-◌}
 use native.Mathlib.Omega.{arith}
 use Rattle.sheets.proofs.Putting.{putting_start, putting_step, putting_end}
 use Rattle.sheets.proofs.put_addresses.Goals as goal
