@@ -1,5 +1,5 @@
 -- Canonical form: bytes that are the canonical list of some coverage. And how it is told piece by piece, from front to end.
-use Rattle.std.specs.Prelude.{Bool, true, false, List, [], ◌∷◌, ◌++◌, ◌≡◌, ℕ, ◌^◌, ◌≤◌, ◌<◌, length, drop, get_or}
+use Rattle.std.specs.Prelude.{Bool, true, false, List, [], ◌∷◌, ◌++◌, ◌≡◌, ℕ, ◌^◌, ◌<◌, drop, get_or}
 use Rattle.section_bytes.specs.Read.{gives}
 use Rattle.lists.specs.Walks.{InBounds}
 use Rattle.coverage.specs.Ranges.{Range}

@@ -1,6 +1,6 @@
 -- Marks, step after step (docs/SCOPE.md, "Marks"): each walk is shown with its place, its base address and the entries that were read.
 use Rattle.std.specs.Prelude.{◌≡◌, refl, Bool, true, false, List, [], ◌∷◌, ◌≢◌, ℕ, ◌-◌, ◌^◌}
-use Rattle.section_bytes.specs.Read.{Result, gives, refused}
+use Rattle.section_bytes.specs.Read.{gives, refused}
 use Rattle.section_bytes.specs.Endianity.{little}
 use Rattle.section_bytes.specs.Leb128.{unsigned_from, unsigned}
 use Rattle.section_bytes.specs.Padded.{is_padded, number_at}

@@ -1,5 +1,4 @@
 -- `canonical::size` meets its contract: the bytes counted, with those of the ranges left, are all of them. Assumes nothing.
-use Prim.Native.Nat.{◌-◌}
 use native.Mathlib.Omega.{arith}
 use Rattle.canonical.proofs.Entries.{counting_start, counting_step, counting_end, over_proper}
 use Rattle.canonical.proofs.size.Goals as goal
@@ -7,43 +6,16 @@ use Rattle.canonical.proofs.size.Goals as goal
 pub loop-i-init : goal.loop-i-init
 loop-i-init c = counting_start c.requires
 
-pub overflow_add-at : goal.overflow_add-at
-overflow_add-at c = omega arith
-
-pub offset_bounds-ends-i : goal.offset_bounds-ends-i
-offset_bounds-ends-i c = omega arith
-
-pub bounds-ends-i : goal.bounds-ends-i
-bounds-ends-i c = omega arith
-
-pub offset_bounds-begins-i : goal.offset_bounds-begins-i
-offset_bounds-begins-i c = omega arith
-
-pub bounds-begins-i : goal.bounds-begins-i
-bounds-begins-i c = omega arith
-
 pub overflow_sub-ends : goal.overflow_sub-ends
 overflow_sub-ends c = omega (arith, over_proper c.loop-i.invariant.over c.loop-i-test.true)
-
-pub unsigned_size-requires : goal.unsigned_size-requires
-unsigned_size-requires c = tt
 
 pub overflow_add-at-in-loop-i : goal.overflow_add-at-in-loop-i
 overflow_add-at-in-loop-i c =
     omega (arith, (counting_step c.loop-i.invariant c.loop-i-test.true c.unsigned_size.ensures).most)
 
-pub overflow_add-i : goal.overflow_add-i
-overflow_add-i c = omega arith
-
-pub loop-i-smaller : goal.loop-i-smaller
-loop-i-smaller c = omega arith
-
 pub loop-i-preserved : goal.loop-i-preserved
 loop-i-preserved c =
     counting_step c.loop-i.invariant c.loop-i-test.true c.unsigned_size.ensures
-
-pub overflow_add-result : goal.overflow_add-result
-overflow_add-result c = omega arith
 
 pub returns : goal.returns
 returns c = counting_end c.loop-i.invariant c.loop-i-test.false

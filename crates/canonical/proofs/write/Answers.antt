@@ -1,6 +1,5 @@
 -- `canonical::write` meets its contract: the bytes of the ranges left, over those that stand there now, are the same all along.
 -- Assumes nothing.
-use Prim.Native.Nat.{◌-◌}
 use native.Mathlib.Omega.{arith}
 use lib.ListN.{length-set}
 use Rattle.canonical.proofs.Entries.{writing_start, writing_room, writing_here, writing_begin, writing_step, writing_end, over_proper, writing_small}
@@ -9,32 +8,8 @@ use Rattle.canonical.proofs.write.Goals as goal
 pub loop-i-init : goal.loop-i-init
 loop-i-init c = writing_start c.requires.arrays c.requires.ends_in_bounds
 
-pub offset_bounds-begins-i : goal.offset_bounds-begins-i
-offset_bounds-begins-i c = omega arith
-
-pub bounds-begins-i : goal.bounds-begins-i
-bounds-begins-i c = omega arith
-
-pub offset_bounds-ends-i : goal.offset_bounds-ends-i
-offset_bounds-ends-i c = omega arith
-
-pub bounds-ends-i : goal.bounds-ends-i
-bounds-ends-i c = omega arith
-
-pub overflow_cast-out : goal.overflow_cast-out
-overflow_cast-out c = omega arith
-
 pub bounds-out-at : goal.bounds-out-at
 bounds-out-at c = writing_here c.loop-i.invariant
-
-pub overflow_add-at : goal.overflow_add-at
-overflow_add-at c = omega arith
-
-pub put_u64-requires : goal.put_u64-requires
-put_u64-requires c = tt
-
-pub overflow_add-at-in-loop-i : goal.overflow_add-at-in-loop-i
-overflow_add-at-in-loop-i c = omega arith
 
 pub overflow_sub-end : goal.overflow_sub-end
 overflow_sub-end c =
@@ -44,20 +19,11 @@ pub put_unsigned-at-requires : goal.put_unsigned-at-requires
 put_unsigned-at-requires c =
     omega (arith, writing_room c.loop-i.invariant c.loop-i-test.true, simp length-set at c.put_u64.auto.out)
 
-pub overflow_add-i : goal.overflow_add-i
-overflow_add-i c = omega arith
-
-pub loop-i-smaller : goal.loop-i-smaller
-loop-i-smaller c = omega arith
-
 pub loop-i-preserved : goal.loop-i-preserved
 loop-i-preserved c =
     let t = c.loop-i.invariant in
     writing_step t c.loop-i-test.true (writing_begin t c.loop-i-test.true c.put_u64.ensures)
     c.put_unsigned-at.ensures.0 c.put_unsigned-at.ensures.1
-
-pub overflow_cast-out-2 : goal.overflow_cast-out-2
-overflow_cast-out-2 c = omega arith
 
 pub bounds-out-at-2 : goal.bounds-out-at-2
 bounds-out-at-2 c = writing_here c.loop-i.invariant

@@ -1,36 +1,11 @@
 -- The ranges from the one at hand on, with the end before it, decide as all of them do. Assumes nothing.
-use Prim.Native.Nat.{◌-◌}
 use native.Mathlib.Omega.{arith}
 use Rattle.sheets.proofs.Tested.{tested_start, tested_step, tested_low, tested_empty, tested_high, tested_end}
 use Rattle.sheets.proofs.lawful_in.Goals.{then-i-gt0+else-begin-last, else-i-gt0}
 use Rattle.sheets.proofs.lawful_in.Goals as goal
 
-pub overflow_mul-ends : goal.overflow_mul-ends
-overflow_mul-ends c = omega arith
-
-pub overflow_add-ends : goal.overflow_add-ends
-overflow_add-ends c = omega arith
-
 pub loop-i-init : goal.loop-i-init
 loop-i-init c = let a = c.args in tested_start a.bytes.now a.n
-
-pub overflow_mul-i : goal.overflow_mul-i
-overflow_mul-i c = omega arith
-
-pub overflow_add-i : goal.overflow_add-i
-overflow_add-i c = omega arith
-
-pub address-begin-requires : goal.address-begin-requires
-address-begin-requires c = omega arith
-
-pub overflow_mul-i-in-loop-i : goal.overflow_mul-i-in-loop-i
-overflow_mul-i-in-loop-i c = omega arith
-
-pub overflow_add-ends-in-loop-i : goal.overflow_add-ends-in-loop-i
-overflow_add-ends-in-loop-i c = omega arith
-
-pub address-end-requires : goal.address-end-requires
-address-end-requires c = omega arith
 
 pub returns-then-begin-last : goal.returns-then-begin-last
 returns-then-begin-last c =
@@ -46,12 +21,6 @@ pub returns-then-bound-begin : goal.returns-then-bound-begin
 returns-then-bound-begin c =
     tested_high c.args.bytes.now c.loop-i.invariant c.loop-i-test.true
     c.address-begin.ensures c.address-end.ensures (omega (arith, c.if-bound-begin.true, c.min_tombstone-bound.ensures))
-
-pub overflow_add-i-in-loop-i : goal.overflow_add-i-in-loop-i
-overflow_add-i-in-loop-i c = omega arith
-
-pub loop-i-smaller : goal.loop-i-smaller
-loop-i-smaller c = omega arith
 
 pub loop-i-preserved : goal.loop-i-preserved
 loop-i-preserved c =

@@ -1,5 +1,6 @@
 -- Each test is a part of the test for a sheet; the addresses are written after the last. Assumes nothing.
 use mathlib.Core.Path.{sym, ◌∙◌}
+use native.Mathlib.Omega.{arith}
 use Rattle.sheets.proofs.Answers.{Headed, no_head, too_many, other_width, other_length, not_lawful, not_placed, placed_sheet}
 use Rattle.sheets.proofs.place_sheet.Goals.{After-lawful_in}
 use Rattle.sheets.proofs.place_sheet.Goals as goal
@@ -8,7 +9,7 @@ headed : (c : After-lawful_in) → Headed c.args.bytes.now c.half_word-n.result
 headed c =
     record {
       count = c.half_word-n.ensures;
-      few = c.if-n-gt-LIMIT.false;
+      few = omega arith;
       wide = sym c.half_word.ensures ∙ c.if-half_word-ne8.false;
       long = c.if-len-n.false;
     }

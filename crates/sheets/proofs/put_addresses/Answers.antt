@@ -1,30 +1,10 @@
 -- `sheets::put_addresses` meets its contract: the addresses still to be written, over the bytes that stand there now, are the
 -- same all along. Assumes nothing.
-use Prim.Native.Nat.{◌-◌}
-use native.Mathlib.Omega.{arith}
 use Rattle.sheets.proofs.Putting.{putting_start, putting_step, putting_end}
 use Rattle.sheets.proofs.put_addresses.Goals as goal
 
 pub loop-i-init : goal.loop-i-init
 loop-i-init c = let p = c.requires in putting_start p.0 p.1
-
-pub offset_bounds-addresses-i : goal.offset_bounds-addresses-i
-offset_bounds-addresses-i c = omega arith
-
-pub bounds-addresses-i : goal.bounds-addresses-i
-bounds-addresses-i c = omega arith
-
-pub put_u64-requires : goal.put_u64-requires
-put_u64-requires c = tt
-
-pub overflow_add-p : goal.overflow_add-p
-overflow_add-p c = omega arith
-
-pub overflow_add-i : goal.overflow_add-i
-overflow_add-i c = omega arith
-
-pub loop-i-smaller : goal.loop-i-smaller
-loop-i-smaller c = omega arith
 
 pub loop-i-preserved : goal.loop-i-preserved
 loop-i-preserved c =

@@ -5,15 +5,6 @@ use lib.ListN.{length-set}
 use Rattle.sheets.proofs.Putting.{sheet_put}
 use Rattle.sheets.proofs.write.Goals as goal
 
-pub bounds-out-1 : goal.bounds-out-1
-bounds-out-1 c = simp length-set (omega arith)
-
-pub bounds-out-2 : goal.bounds-out-2
-bounds-out-2 c = simp length-set (omega arith)
-
-pub bounds-out-3 : goal.bounds-out-3
-bounds-out-3 c = simp length-set (omega arith)
-
 pub put_addresses-requires : goal.put_addresses-requires
 put_addresses-requires c = (c.requires.0.0, simp length-set (omega arith))
 

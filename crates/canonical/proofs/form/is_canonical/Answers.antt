@@ -1,6 +1,5 @@
 -- `form::is_canonical` meets its contract: what is left of the bytes decides as all of them do. Assumes nothing.
 use mathlib.Core.Path.{subst}
-use Prim.Native.Nat.{◌-◌}
 use native.Mathlib.Omega.{arith}
 use Rattle.canonical.specs.Form.{PieceAt}
 use Rattle.canonical.proofs.Forming.{forming_none, forming_end, forming_other, forming_many, forming_low, forming_step}
