@@ -25,11 +25,9 @@ fn wide(x: u8) -> u64 {
 }
 
 fn print_bytes(rt: &impl Print, bytes: &[u8]) -> io::Result<()> {
-    let mut i = 0;
-    while i < bytes.len() {
+    for x in bytes {
         say(rt, b" ")?;
-        print!(rt; "{:02x}", wide(bytes[i]))?;
-        i += 1;
+        print!(rt; "{:02x}", wide(*x))?;
     }
     Ok(())
 }

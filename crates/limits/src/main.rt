@@ -53,15 +53,13 @@ fn encoding() -> Encoding {
 fn fill(list: &mut [u8; LENGTH], first: usize, step: usize)
     requires { (first ≤ 16) × (step ≤ 2) }
 {
-    let mut i: usize = 0;
     let mut begin = first;
-    while i < RANGES {
+    for i in 0..RANGES {
         list[6 * i] = 7;
         list[6 * i + 1] = (begin % 256) as u8;
         list[6 * i + 2] = (begin / 256) as u8;
         list[6 * i + 5] = 1;
         begin += step;
-        i += 1;
     }
 }
 

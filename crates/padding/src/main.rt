@@ -33,11 +33,9 @@ fn wide(x: u8) -> u64 {
 }
 
 fn print_bytes(rt: &impl Print, bytes: &[u8]) -> io::Result<()> {
-    let mut i = 0;
-    while i < bytes.len() {
-        print!(rt; "{:02x}", wide(bytes[i]))?;
+    for x in bytes {
+        print!(rt; "{:02x}", wide(*x))?;
         say(rt, b" ")?;
-        i += 1;
     }
     Ok(())
 }

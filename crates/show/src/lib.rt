@@ -44,13 +44,11 @@ fn print_coverage(rt: &impl Print, coverage: Coverage) -> io::Result<()> {
     let begins = coverage.begins;
     let ends = coverage.ends;
     println!(rt; "{n}")?;
-    let mut i = 0;
-    while i < n {
+    for i in 0..n {
         if LIMIT <= i {
             return Ok(());
         }
         print_range(rt, begins[i], ends[i])?;
-        i += 1;
     }
     Ok(())
 }

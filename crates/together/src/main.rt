@@ -34,10 +34,8 @@ fn byte(rt: &impl Print, x: u8) -> io::Result<()> {
 
 fn print_list(rt: &impl Print, kind: &[u8], list: &[u8]) -> io::Result<()> {
     say(rt, kind)?;
-    let mut i: usize = 0;
-    while i < list.len() {
-        byte(rt, list[i])?;
-        i += 1;
+    for x in list {
+        byte(rt, *x)?;
     }
     Ok(())
 }
@@ -57,21 +55,17 @@ fn result(rt: &impl Print, first: u64) -> io::Result<()> {
 
 fn print_words(rt: &impl Print, row: &[u64; WORDS]) -> io::Result<()> {
     result(rt, row[0])?;
-    let mut i: usize = 1;
-    while i < WORDS {
+    for i in 1..WORDS {
         put(rt, b" ", row[i])?;
-        i += 1;
     }
     Ok(())
 }
 
 fn same(a: &[u64; WORDS], b: &[u64; WORDS]) -> bool {
-    let mut i: usize = 0;
-    while i < WORDS {
+    for i in 0..WORDS {
         if a[i] != b[i] {
             return false;
         }
-        i += 1;
     }
     true
 }
@@ -87,12 +81,10 @@ fn place(rt: &impl Print, i: usize, addresses: &[u64], row: &[u64; WORDS]) -> io
 
 fn places(rt: &impl Print, addresses: &[u64], rows: &Rows) -> io::Result<()> {
     place(rt, 0, addresses, &rows[0])?;
-    let mut i: usize = 1;
-    while i < MOST {
+    for i in 1..MOST {
         if !same(&rows[i - 1], &rows[i]) {
             place(rt, i, addresses, &rows[i])?;
         }
-        i += 1;
     }
     Ok(())
 }
@@ -277,10 +269,8 @@ fn failed(rt: &impl Print) -> io::Result<()> {
 
 fn numbers() -> [u64; MOST] {
     let mut all = [0u64; MOST];
-    let mut i: usize = 0;
-    while i < MOST {
+    for i in 0..MOST {
         all[i] = i as u64;
-        i += 1;
     }
     all
 }

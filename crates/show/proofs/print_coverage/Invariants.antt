@@ -1,9 +1,0 @@
--- The loop ends with the count or the limit.
-use Rattle.std.proofs.Common.{◌-◌, ◌≤◌}
-use Rattle.show.proofs.print_coverage.Given as goal
-
-abbrev pub invariant-loop-i : goal.invariant-loop-i
-invariant-loop-i g l = l.i ≤ l.n
-
-abbrev pub decreases-loop-i : goal.decreases-loop-i
-decreases-loop-i g l = l.n - l.i

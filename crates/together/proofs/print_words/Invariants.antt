@@ -1,9 +1,0 @@
--- The loop ends after five turns, and each word is one of the six.
-use Rattle.std.proofs.Common.{◌-◌, ◌≤◌}
-use Rattle.together.proofs.print_words.Given as goal
-
-abbrev pub invariant-loop-i : goal.invariant-loop-i
-invariant-loop-i g l = l.i ≤ 6
-
-abbrev pub decreases-loop-i : goal.decreases-loop-i
-decreases-loop-i g l = 6 - l.i
