@@ -11,7 +11,8 @@ mod ranges;
 mod show;
 mod walks;
 
-ghost use Rattle.std.specs.Prelude.{◌≤◌, ◌<◌, length, IfOk};
+ghost use Rattle.std.specs.Prelude.{◌≤◌, ◌<◌, length, take, IfOk};
+ghost use Rattle.std.specs.Io.KnownBytes.{Consumes, IsAtEnd};
 
 use lines::{Call, Parsed, ROOM, Took};
 use std::io;
@@ -102,15 +103,18 @@ fn replay(rt: &impl Print, text: &[u8]) -> io::Result<()> {
     Ok(())
 }
 
-// Reads until the room is full or the input ends, and answers how many bytes there are.
-fn read_full(input: &mut impl Read, room: &mut [u8]) -> io::Result<usize>
-    ensures { IfOk result (λ n. n ≤ length room.new) }
+// Reads until the room is full or the input ends, and answers how many bytes there are. Of an input whose bytes are known they
+// are the first ones, and all of them where there is room left.
+fn read_full<R: Read>(input: &mut R, room: &mut [u8]) -> io::Result<usize>
+    ensures within { IfOk result (λ n. n ≤ length room.new) }
+    ensures bytes { IfOk result (λ n. Consumes (R.remaining input.old) (R.remaining input.new) (take n room.new)) }
+    ensures end { IfOk result (λ n. n < length room.new → IsAtEnd (R.remaining input.new)) }
 {
     let mut done = 0;
     while done < room.len() {
         let n = input.read(&mut room[done..])?;
         if n == 0 {
-            break;
+            return Ok(done);
         }
         done += n;
     }

@@ -1,7 +1,8 @@
 // The program over sheets: what it prints for the bytes that it was given.
 #![tactic(auto)]
 
-ghost use Rattle.std.specs.Prelude.{◌≡◌, ◌≤◌, length, IfOk};
+ghost use Rattle.std.specs.Prelude.{◌≡◌, ◌≤◌, ◌<◌, length, take, IfOk};
+ghost use Rattle.std.specs.Io.KnownBytes.{Consumes, IsAtEnd};
 ghost use Rattle.show.specs.Show.{is_given};
 ghost use Rattle.sheets.specs.Sheet.{sheet_ranges};
 
@@ -15,15 +16,18 @@ use std::io::Read;
 // longer input for its length, neither because it was cut.
 pub const ROOM: usize = HEAD + RANGE * (LIMIT + 1) + 1;
 
-// Reads until the room is full or the input ends, and answers how many bytes there are.
-pub fn read_full(input: &mut impl Read, room: &mut [u8]) -> io::Result<usize>
-    ensures { IfOk result (λ n. n ≤ length room.new) }
+// Reads until the room is full or the input ends, and answers how many bytes there are. Of an input whose bytes are known they
+// are the first ones, and all of them where there is room left.
+pub fn read_full<R: Read>(input: &mut R, room: &mut [u8]) -> io::Result<usize>
+    ensures within { IfOk result (λ n. n ≤ length room.new) }
+    ensures bytes { IfOk result (λ n. Consumes (R.remaining input.old) (R.remaining input.new) (take n room.new)) }
+    ensures end { IfOk result (λ n. n < length room.new → IsAtEnd (R.remaining input.new)) }
 {
     let mut done = 0;
     while done < room.len() {
         let n = input.read(&mut room[done..])?;
         if n == 0 {
-            break;
+            return Ok(done);
         }
         done += n;
     }
