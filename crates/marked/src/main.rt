@@ -1,75 +1,77 @@
 // Marks set and returned to among calls of next: on range lists, then on location lists (locations.rt). The file stdout has the answers by
 // docs/SCOPE.md: what each step comes to and, in parentheses, the walk then by its place, base address and count. All is hexadecimal but
 // the number of a refusal, behind which its value stands, 0 where it has none.
+#![tactic(auto)]
+
 mod locations;
 
-use libc::STDOUT_FILENO;
 use lists::rnglists::RangeAnswer;
 use lists::{Opened, Range, Walk};
 use marks::{MarkAnswer, MarkedWalk, Marking};
 use section_bytes::common::{DebugAddrBase, Encoding, Format, RangeListsOffset};
 use section_bytes::endianity::RunTimeEndian;
 use section_bytes::error::Error;
+use std::io;
 
-fn say(text: &[u8]) {
-    io::write_all(STDOUT_FILENO, text);
+fn say(rt: &impl Print, text: &[u8]) -> io::Result<()> {
+    rt.write_all(text)
 }
 
-fn put(x: u64) {
-    say(b" ");
-    io::print_hex(STDOUT_FILENO, x, 1);
+fn put(rt: &impl Print, x: u64) -> io::Result<()> {
+    say(rt, b" ")?;
+    print!(rt; "{x:x}")
 }
 
-fn range(x: Range) {
-    put(x.begin);
-    put(x.end);
+fn range(rt: &impl Print, x: Range) -> io::Result<()> {
+    put(rt, x.begin)?;
+    put(rt, x.end)
 }
 
-fn refused(e: Error) {
-    say(b" refused ");
-    io::print_decimal(STDOUT_FILENO, e.number());
-    put(e.value());
+fn refused(rt: &impl Print, e: Error) -> io::Result<()> {
+    say(rt, b" refused ")?;
+    print!(rt; "{}", e.number())?;
+    put(rt, e.value())
 }
 
-fn stands(m: MarkedWalk) -> MarkedWalk {
+fn stands(rt: &impl Print, m: MarkedWalk) -> io::Result<MarkedWalk> {
     let walk = m.walk;
-    say(b" (");
-    io::print_hex(STDOUT_FILENO, walk.at as u64, 1);
-    say(b",");
-    put(walk.base_address);
-    say(b",");
-    put(walk.entries);
-    say(b")");
-    m
+    say(rt, b" (")?;
+    print!(rt; "{:x}", walk.at as u64)?;
+    say(rt, b",")?;
+    put(rt, walk.base_address)?;
+    say(rt, b",")?;
+    put(rt, walk.entries)?;
+    say(rt, b")")?;
+    Ok(m)
 }
 
 // A call that reads knows nothing of marks: its walk is put in the place of the one that it took.
-fn read(m: MarkedWalk, walk: Walk) -> MarkedWalk {
+fn read(rt: &impl Print, m: MarkedWalk, walk: Walk) -> io::Result<MarkedWalk> {
     let mut after = m;
     after.walk = walk;
-    stands(after)
+    stands(rt, after)
 }
 
-fn answered(r: MarkAnswer) -> MarkedWalk {
+fn answered(rt: &impl Print, r: MarkAnswer) -> io::Result<MarkedWalk> {
     let marking = r.marking;
     match marking {
-        Marking::Done => say(b" done"),
-        Marking::Refused(e) => refused(e),
+        Marking::Done => say(rt, b" done")?,
+        Marking::Refused(e) => refused(rt, e)?,
     }
     let m = r.walk;
-    stands(m)
+    stands(rt, m)
 }
 
-fn set(m: MarkedWalk, number: u64) -> MarkedWalk {
-    say(b" set");
-    put(number);
-    answered(m.set_mark(number))
+fn set(rt: &impl Print, m: MarkedWalk, number: u64) -> io::Result<MarkedWalk> {
+    say(rt, b" set")?;
+    put(rt, number)?;
+    answered(rt, m.set_mark(number))
 }
 
-fn back(m: MarkedWalk, number: u64) -> MarkedWalk {
-    say(b" return");
-    put(number);
-    answered(m.return_to(number))
+fn back(rt: &impl Print, m: MarkedWalk, number: u64) -> io::Result<MarkedWalk> {
+    say(rt, b" return")?;
+    put(rt, number)?;
+    answered(rt, m.return_to(number))
 }
 
 // A walk made by hand, with no mark set.
@@ -81,12 +83,12 @@ fn at(place: usize) -> MarkedWalk {
     })
 }
 
-fn start(r: Opened) -> MarkedWalk {
+fn start(rt: &impl Print, r: Opened) -> io::Result<MarkedWalk> {
     match r {
-        Opened::List(walk) => MarkedWalk::new(walk),
+        Opened::List(walk) => Ok(MarkedWalk::new(walk)),
         Opened::Refused(e) => {
-            refused(e);
-            at(0)
+            refused(rt, e)?;
+            Ok(at(0))
         }
     }
 }
@@ -99,12 +101,20 @@ fn encoding(version: u16, address_size: u8) -> Encoding {
     }
 }
 
-fn open(list: &[u8]) -> MarkedWalk {
-    start(lists::rnglists::ranges(list, RangeListsOffset(0), encoding(5, 4), 0))
+fn open(rt: &impl Print, list: &[u8]) -> io::Result<MarkedWalk> {
+    start(
+        rt,
+        lists::rnglists::ranges(list, RangeListsOffset(0), encoding(5, 4), 0),
+    )
 }
 
 // Two addresses, 10 and 20, behind their header.
-fn next_sized(list: &[u8], address_size: u8, m: MarkedWalk) -> MarkedWalk {
+fn next_sized(
+    rt: &impl Print,
+    list: &[u8],
+    address_size: u8,
+    m: MarkedWalk,
+) -> io::Result<MarkedWalk> {
     let table = b"\x0c\0\0\0\x05\0\x04\0\x10\0\0\0\x20\0\0\0";
     match lists::rnglists::next(
         list,
@@ -115,102 +125,117 @@ fn next_sized(list: &[u8], address_size: u8, m: MarkedWalk) -> MarkedWalk {
         RunTimeEndian::Little,
     ) {
         RangeAnswer::Range(x, walk) => {
-            range(x);
-            read(m, walk)
+            range(rt, x)?;
+            read(rt, m, walk)
         }
         RangeAnswer::End(walk) => {
-            say(b" end");
-            read(m, walk)
+            say(rt, b" end")?;
+            read(rt, m, walk)
         }
         RangeAnswer::Refused(e, walk) => {
-            refused(e);
-            read(m, walk)
+            refused(rt, e)?;
+            read(rt, m, walk)
         }
     }
 }
 
-fn next(list: &[u8], m: MarkedWalk) -> MarkedWalk {
-    next_sized(list, 4, m)
+fn next(rt: &impl Print, list: &[u8], m: MarkedWalk) -> io::Result<MarkedWalk> {
+    next_sized(rt, list, 4, m)
 }
 
-fn three(list: &[u8], m: MarkedWalk) -> MarkedWalk {
-    next(list, next(list, next(list, m)))
+fn three(rt: &impl Print, list: &[u8], m: MarkedWalk) -> io::Result<MarkedWalk> {
+    next(rt, list, next(rt, list, next(rt, list, m)?)?)
 }
 
-fn calls_again(list: &[u8]) {
-    say(b"the same calls:");
-    let m = set(next(list, open(list)), 0);
-    three(list, back(three(list, m), 0));
-    say(b"\n");
+fn calls_again(rt: &impl Print, list: &[u8]) -> io::Result<()> {
+    say(rt, b"the same calls:")?;
+    let m = set(rt, next(rt, list, open(rt, list)?)?, 0)?;
+    three(rt, list, back(rt, three(rt, list, m)?, 0)?)?;
+    say(rt, b"\n")
 }
 
-fn base_again(list: &[u8]) {
-    say(b"base address:");
-    let m = set(next(list, open(list)), 7);
-    next(list, back(next(list, m), 7));
-    say(b"\n");
+fn base_again(rt: &impl Print, list: &[u8]) -> io::Result<()> {
+    say(rt, b"base address:")?;
+    let m = set(rt, next(rt, list, open(rt, list)?)?, 7)?;
+    next(rt, list, back(rt, next(rt, list, m)?, 7)?)?;
+    say(rt, b"\n")
 }
 
 // Marks 0 and 7, for which 8 and the largest number could be taken, are set, and a third one.
-fn numbers(list: &[u8]) {
-    say(b"numbers above 7:");
-    let m = set(set(set(next(list, open(list)), 0), 3), 7);
-    let eight = back(set(next(list, m), 8), 8);
-    let largest = back(set(eight, 0xffff_ffff_ffff_ffff), 0xffff_ffff_ffff_ffff);
-    next(list, back(back(back(largest, 0), 7), 3));
-    say(b"\n");
+fn numbers(rt: &impl Print, list: &[u8]) -> io::Result<()> {
+    say(rt, b"numbers above 7:")?;
+    let m = set(
+        rt,
+        set(rt, set(rt, next(rt, list, open(rt, list)?)?, 0)?, 3)?,
+        7,
+    )?;
+    let eight = back(rt, set(rt, next(rt, list, m)?, 8)?, 8)?;
+    let largest = back(
+        rt,
+        set(rt, eight, 0xffff_ffff_ffff_ffff)?,
+        0xffff_ffff_ffff_ffff,
+    )?;
+    next(rt, list, back(rt, back(rt, back(rt, largest, 0)?, 7)?, 3)?)?;
+    say(rt, b"\n")
 }
 
-fn never_set(list: &[u8]) {
-    say(b"never set:");
-    next(list, back(next(list, open(list)), 5));
-    say(b"\n");
+fn never_set(rt: &impl Print, list: &[u8]) -> io::Result<()> {
+    say(rt, b"never set:")?;
+    next(rt, list, back(rt, next(rt, list, open(rt, list)?)?, 5)?)?;
+    say(rt, b"\n")
 }
 
-fn set_again(list: &[u8]) {
-    say(b"set again:");
-    let m = next(list, set(next(list, open(list)), 2));
-    next(list, back(next(list, set(m, 2)), 2));
-    say(b"\n");
+fn set_again(rt: &impl Print, list: &[u8]) -> io::Result<()> {
+    say(rt, b"set again:")?;
+    let m = next(rt, list, set(rt, next(rt, list, open(rt, list)?)?, 2)?)?;
+    next(rt, list, back(rt, next(rt, list, set(rt, m, 2)?)?, 2)?)?;
+    say(rt, b"\n")
 }
 
-fn two_returns(list: &[u8]) {
-    say(b"two returns:");
-    let m = next(list, set(next(list, open(list)), 0));
-    let again = back(back(next(list, set(m, 1)), 0), 0);
-    next(list, back(again, 1));
-    say(b"\n");
+fn two_returns(rt: &impl Print, list: &[u8]) -> io::Result<()> {
+    say(rt, b"two returns:")?;
+    let m = next(rt, list, set(rt, next(rt, list, open(rt, list)?)?, 0)?)?;
+    let again = back(rt, back(rt, next(rt, list, set(rt, m, 1)?)?, 0)?, 0)?;
+    next(rt, list, back(rt, again, 1)?)?;
+    say(rt, b"\n")
 }
 
-fn another_size(list: &[u8]) {
-    say(b"size 5:");
-    back(next_sized(list, 5, back(set(at(0), 0), 0)), 0);
-    say(b"\n");
+fn another_size(rt: &impl Print, list: &[u8]) -> io::Result<()> {
+    say(rt, b"size 5:")?;
+    back(
+        rt,
+        next_sized(rt, list, 5, back(rt, set(rt, at(0), 0)?, 0)?)?,
+        0,
+    )?;
+    say(rt, b"\n")
 }
 
-fn failed_lookup(list: &[u8]) {
-    say(b"failed lookup:");
-    let m = set(open(list), 0);
-    three(list, back(three(list, m), 0));
-    say(b"\n");
+fn failed_lookup(rt: &impl Print, list: &[u8]) -> io::Result<()> {
+    say(rt, b"failed lookup:")?;
+    let m = set(rt, open(rt, list)?, 0)?;
+    three(rt, list, back(rt, three(rt, list, m)?, 0)?)?;
+    say(rt, b"\n")
 }
 
-fn past_the_end(list: &[u8]) {
-    say(b"place 63:");
-    next(list, back(set(at(99), 0), 0));
-    say(b"\n");
+fn past_the_end(rt: &impl Print, list: &[u8]) -> io::Result<()> {
+    say(rt, b"place 63:")?;
+    next(rt, list, back(rt, set(rt, at(99), 0)?, 0)?)?;
+    say(rt, b"\n")
 }
 
-fn main() {
+fn main(rt: HostRuntime) -> io::Result<()> {
     let list = b"\x07\x10\0\0\0\x01\x07\x20\0\0\0\x01\x07\x30\0\0\0\x01\0";
-    calls_again(list);
-    base_again(b"\x05\0\x10\0\0\x04\x01\x02\x05\0\x20\0\0\x04\x03\x04\0");
-    numbers(list);
-    never_set(list);
-    set_again(list);
-    two_returns(list);
-    another_size(b"\0");
-    failed_lookup(b"\x02\0\x02\x03\0\x08\0");
-    past_the_end(list);
-    locations::locations();
+    calls_again(&rt, list)?;
+    base_again(
+        &rt,
+        b"\x05\0\x10\0\0\x04\x01\x02\x05\0\x20\0\0\x04\x03\x04\0",
+    )?;
+    numbers(&rt, list)?;
+    never_set(&rt, list)?;
+    set_again(&rt, list)?;
+    two_returns(&rt, list)?;
+    another_size(&rt, b"\0")?;
+    failed_lookup(&rt, b"\x02\0\x02\x03\0\x08\0")?;
+    past_the_end(&rt, list)?;
+    locations::locations(&rt)
 }

@@ -6,127 +6,185 @@ use lists::Walk;
 use lists::loclists::RawLocationAnswer;
 use section_bytes::common::{DwarfFileType, Encoding};
 use section_bytes::endianity::RunTimeEndian;
+use std::io;
 
-fn entry(raw: RawLocListEntry, padded: bool, after: usize) {
-    super::entry(entries::raw::bounds_of(raw), padded, after);
+fn entry(rt: &impl Print, raw: RawLocListEntry, padded: bool, after: usize) -> io::Result<()> {
+    super::entry(rt, entries::raw::bounds_of(raw), padded, after)?;
     let x = lists::convert::expression_of(raw);
-    two(b" expression ", x.offset as u64, x.len as u64);
+    two(rt, b" expression ", x.offset as u64, x.len as u64)
 }
 
-fn step(list: &[u8], before: Walk, encoding: Encoding, file_type: DwarfFileType) -> Walk {
+fn step(
+    rt: &impl Print,
+    list: &[u8],
+    before: Walk,
+    encoding: Encoding,
+    file_type: DwarfFileType,
+) -> io::Result<Walk> {
     let little = RunTimeEndian::Little;
     match lists::loclists::next_raw(list, before, encoding, little, file_type) {
         RawLocationAnswer::Entry(raw, padded, after) => {
-            entry(raw, padded, after.at);
-            after
+            entry(rt, raw, padded, after.at)?;
+            Ok(after)
         }
-        RawLocationAnswer::End(after) => ended(after),
-        RawLocationAnswer::Refused(e, after) => refused_at(e, after),
+        RawLocationAnswer::End(after) => ended(rt, after),
+        RawLocationAnswer::Refused(e, after) => refused_at(rt, e, after),
     }
 }
 
-fn raw_entry(list: &[u8], encoding: Encoding, file_type: DwarfFileType) {
+fn raw_entry(
+    rt: &impl Print,
+    list: &[u8],
+    encoding: Encoding,
+    file_type: DwarfFileType,
+) -> io::Result<()> {
     let little = RunTimeEndian::Little;
     match entries::loclists::raw_location_entry(list, 0, encoding, little, file_type) {
-        RawLocationStep::Entry(raw, padded, after) => entry(raw, padded, after),
-        RawLocationStep::End => say(b" end"),
-        RawLocationStep::Refused(e) => refused(e),
+        RawLocationStep::Entry(raw, padded, after) => entry(rt, raw, padded, after),
+        RawLocationStep::End => say(rt, b" end"),
+        RawLocationStep::Refused(e) => refused(rt, e),
     }
 }
 
-fn read_list(list: &[u8], encoding: Encoding, file_type: DwarfFileType) {
-    line(list, 0);
-    raw_entry(list, encoding, file_type);
-    say(b";");
-    let first = step(list, walk(0), encoding, file_type);
-    let second = step(list, first, encoding, file_type);
-    step(list, second, encoding, file_type);
-    say(b"\n");
+fn read_list(
+    rt: &impl Print,
+    list: &[u8],
+    encoding: Encoding,
+    file_type: DwarfFileType,
+) -> io::Result<()> {
+    line(rt, list, 0)?;
+    raw_entry(rt, list, encoding, file_type)?;
+    say(rt, b";")?;
+    let first = step(rt, list, walk(0), encoding, file_type)?;
+    let second = step(rt, list, first, encoding, file_type)?;
+    step(rt, list, second, encoding, file_type)?;
+    say(rt, b"\n")
 }
 
-fn location(list: &[u8]) {
-    read_list(list, encoding(5, 4), DwarfFileType::Main);
+fn location(rt: &impl Print, list: &[u8]) -> io::Result<()> {
+    read_list(rt, list, encoding(5, 4), DwarfFileType::Main)
 }
 
-fn sized(version: u16, address_size: u8, list: &[u8]) {
-    setting(version, address_size);
-    read_list(list, encoding(version, address_size), DwarfFileType::Main);
+fn sized(rt: &impl Print, version: u16, address_size: u8, list: &[u8]) -> io::Result<()> {
+    setting(rt, version, address_size)?;
+    read_list(
+        rt,
+        list,
+        encoding(version, address_size),
+        DwarfFileType::Main,
+    )
 }
 
-fn split(list: &[u8]) {
-    say(b"split, ");
-    setting(4, 4);
-    read_list(list, encoding(4, 4), DwarfFileType::Dwo);
+fn split(rt: &impl Print, list: &[u8]) -> io::Result<()> {
+    say(rt, b"split, ")?;
+    setting(rt, 4, 4)?;
+    read_list(rt, list, encoding(4, 4), DwarfFileType::Dwo)
 }
 
-fn examples() {
-    location(b"\x05\x81\0\x50\0");
-    location(b"\x05\x01\x50\0");
-    split(b"\x03\0\x08\0\0\0\x01\0\x50\0");
-    split(b"\x03\x80\0\x08\0\0\0\x01\0\x50\0");
-    split(b"\x04\x81\0\x82\0\x01\0\x50\0");
+fn examples(rt: &impl Print) -> io::Result<()> {
+    location(rt, b"\x05\x81\0\x50\0")?;
+    location(rt, b"\x05\x01\x50\0")?;
+    split(rt, b"\x03\0\x08\0\0\0\x01\0\x50\0")?;
+    split(rt, b"\x03\x80\0\x08\0\0\0\x01\0\x50\0")?;
+    split(rt, b"\x04\x81\0\x82\0\x01\0\x50\0")
 }
 
 // Each number of each kind padded by itself, an expression's length last.
-fn kinds() {
-    location(b"\x01\0\x01\x80\0\x06\x80\0\x80\0");
-    location(b"\x02\x80\0\x01\x01\x50\x02\0\x81\0\x01\x50\x02\0\x01\x81\0\x50");
-    location(b"\x03\x80\0\x08\x01\x50\x03\0\x88\0\x01\x50\x03\0\x08\x81\0\x50");
-    location(b"\x04\x81\0\x02\x01\x50\x04\x01\x82\0\x01\x50\x04\x01\x02\x81\0\x50");
-    location(b"\x02\0\x01\x01\x50\x03\0\x08\x01\x50\x04\x01\x02\x01\x50");
-    location(b"\x05\x80\0\x05\x02\x80\0\0\x80\0");
-    location(b"\x07\x80\0\x80\0\x80\0\x80\0\x01\x50\x07\x10\0\0\0\x20\0\0\0\x81\0\x50");
-    location(b"\x08\x80\0\x80\0\x10\x01\x50\x08\x10\0\0\0\x90\0\0\x08\x10\0\0\0\x10\x81\0\x50");
+fn kinds(rt: &impl Print) -> io::Result<()> {
+    location(rt, b"\x01\0\x01\x80\0\x06\x80\0\x80\0")?;
     location(
+        rt,
+        b"\x02\x80\0\x01\x01\x50\x02\0\x81\0\x01\x50\x02\0\x01\x81\0\x50",
+    )?;
+    location(
+        rt,
+        b"\x03\x80\0\x08\x01\x50\x03\0\x88\0\x01\x50\x03\0\x08\x81\0\x50",
+    )?;
+    location(
+        rt,
+        b"\x04\x81\0\x02\x01\x50\x04\x01\x82\0\x01\x50\x04\x01\x02\x81\0\x50",
+    )?;
+    location(
+        rt,
+        b"\x02\0\x01\x01\x50\x03\0\x08\x01\x50\x04\x01\x02\x01\x50",
+    )?;
+    location(rt, b"\x05\x80\0\x05\x02\x80\0\0\x80\0")?;
+    location(
+        rt,
+        b"\x07\x80\0\x80\0\x80\0\x80\0\x01\x50\x07\x10\0\0\0\x20\0\0\0\x81\0\x50",
+    )?;
+    location(
+        rt,
+        b"\x08\x80\0\x80\0\x10\x01\x50\x08\x10\0\0\0\x90\0\0\x08\x10\0\0\0\x10\x81\0\x50",
+    )?;
+    location(
+        rt,
         b"\x02\x80\x01\xff\x7f\x01\x50\x03\x80\x01\xff\x7f\x01\x50\x04\x80\x01\xff\x7f\x01\x50",
-    );
-    location(b"\x02\x80\x01\x80\x80\0\0\x03\x80\x80\0\x80\x02\0\x04\x80\x01\x80\x02\x81\0\x50");
-    location(b"\x08\x10\0\0\0\x80\x01\x01\x50\x01\x80\x01\x08\x10\0\0\0\x80\x81\0\x01\x50");
+    )?;
+    location(
+        rt,
+        b"\x02\x80\x01\x80\x80\0\0\x03\x80\x80\0\x80\x02\0\x04\x80\x01\x80\x02\x81\0\x50",
+    )?;
+    location(
+        rt,
+        b"\x08\x10\0\0\0\x80\x01\x01\x50\x01\x80\x01\x08\x10\0\0\0\x80\x81\0\x01\x50",
+    )?;
     sized(
+        rt,
         5,
         3,
         b"\x08\x10\x80\0\x10\0\x08\x10\0\0\x90\0\0\x08\x10\0\0\x10\x80\0",
-    );
-    sized(4, 2, b"\x01\x80\0\x90\x01\0\x50\xff\xff\x80\0\0\0\0\0");
+    )?;
+    sized(rt, 4, 2, b"\x01\x80\0\x90\x01\0\x50\xff\xff\x80\0\0\0\0\0")
 }
 
 // Up to version 4 kind 3's length has four bytes and an expression's two.
-fn splits() {
-    split(b"\x01\x80\0\x02\x80\0\x01\x01\0\x50\x02\0\x81\0\x01\0\x50");
-    split(b"\x03\0\x80\0\0\0\x01\0\x50\x05\0\0\x05\x01\0\x50");
-    split(b"\x03\x80\x01\x80\0\0\0\0\0\x04\x80\x01\x80\x02\x01\0\x50\x03\x80\x80\0\x80\0\0\0\0\0");
-    split(b"\x04\x01\x02\x01\0\x50\x04\x81\0\x02\x01\0\x50\x04\x01\x82\0\x01\0\x50");
+fn splits(rt: &impl Print) -> io::Result<()> {
     split(
+        rt,
+        b"\x01\x80\0\x02\x80\0\x01\x01\0\x50\x02\0\x81\0\x01\0\x50",
+    )?;
+    split(rt, b"\x03\0\x80\0\0\0\x01\0\x50\x05\0\0\x05\x01\0\x50")?;
+    split(
+        rt,
+        b"\x03\x80\x01\x80\0\0\0\0\0\x04\x80\x01\x80\x02\x01\0\x50\x03\x80\x80\0\x80\0\0\0\0\0",
+    )?;
+    split(
+        rt,
+        b"\x04\x01\x02\x01\0\x50\x04\x81\0\x02\x01\0\x50\x04\x01\x82\0\x01\0\x50",
+    )?;
+    split(
+        rt,
         b"\x07\x80\0\x80\0\x80\0\x80\0\0\0\x08\x80\0\x80\0\x10\x01\0\x50\x08\x10\0\0\0\x90\0\0\0",
-    );
+    )
 }
 
 // An expression of 128 bytes: behind its length in two bytes, of kind 5 and of a bare pair, and in LEB128 of two and of three bytes.
-fn long() {
+fn long(rt: &impl Print) -> io::Result<()> {
     let mut list = [0u8; 132];
     list[0] = 0x05;
     list[1] = 0x80;
-    split(&list);
+    split(rt, &list)?;
     list[2] = 0x80;
-    sized(4, 1, &list);
+    sized(rt, 4, 1, &list)?;
     list[2] = 0x01;
-    location(&list);
+    location(rt, &list)?;
     list[2] = 0x81;
-    location(&list);
+    location(rt, &list)
 }
 
-fn no_entry() {
-    location(b"\x05\x82\0\x50");
-    location(b"\x04\x81\0\x02");
-    location(b"\x02\x80\0\0\x80\x80\x80\x80\x80\x80\x80\x80\x80\x02");
-    location(b"\x09\x80\0");
-    split(b"\x05\x81\0\x50");
+fn no_entry(rt: &impl Print) -> io::Result<()> {
+    location(rt, b"\x05\x82\0\x50")?;
+    location(rt, b"\x04\x81\0\x02")?;
+    location(rt, b"\x02\x80\0\0\x80\x80\x80\x80\x80\x80\x80\x80\x80\x02")?;
+    location(rt, b"\x09\x80\0")?;
+    split(rt, b"\x05\x81\0\x50")
 }
 
-pub(crate) fn locations() {
-    examples();
-    kinds();
-    splits();
-    long();
-    no_entry();
+pub(crate) fn locations(rt: &impl Print) -> io::Result<()> {
+    examples(rt)?;
+    kinds(rt)?;
+    splits(rt)?;
+    long(rt)?;
+    no_entry(rt)
 }

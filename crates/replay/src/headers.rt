@@ -8,6 +8,7 @@ use section_bytes::common::{
     DebugRngListsIndex, Encoding, Format,
 };
 use section_bytes::endianity::RunTimeEndian;
+use std::io;
 use tables::addr::{
     AddrEntryIter, AddrHeader, AddrHeaderIter, AddressAnswer, NextEntry, NextHeader,
 };
@@ -15,50 +16,59 @@ use tables::lists::{ListsAnswer, ListsHeader};
 use tables::loclists::LocationOffsetAnswer;
 use tables::rnglists::RangeOffsetAnswer;
 
-fn address(r: AddressAnswer) {
+fn address(rt: &impl Print, r: AddressAnswer) -> io::Result<()> {
     match r {
-        AddressAnswer::Address(x) => show::value(x),
-        AddressAnswer::Refused(e) => show::refusal(e),
+        AddressAnswer::Address(x) => show::value(rt, x),
+        AddressAnswer::Refused(e) => show::refusal(rt, e),
     }
 }
 
-fn get_address(call: Call, table: &[u8]) {
+fn get_address(rt: &impl Print, call: Call, table: &[u8]) -> io::Result<()> {
     let encoding = call.encoding;
     let endian = call.endian;
     let base = DebugAddrBase(call.a);
     let index = DebugAddrIndex(call.b);
     let size = encoding.address_size;
-    address(tables::addr::get_address(table, size, base, index, endian));
+    address(
+        rt,
+        tables::addr::get_address(table, size, base, index, endian),
+    )
 }
 
-fn range_offset(r: RangeOffsetAnswer) {
+fn range_offset(rt: &impl Print, r: RangeOffsetAnswer) -> io::Result<()> {
     match r {
-        RangeOffsetAnswer::Offset(x) => show::value(x.0),
-        RangeOffsetAnswer::Refused(e) => show::refusal(e),
+        RangeOffsetAnswer::Offset(x) => show::value(rt, x.0),
+        RangeOffsetAnswer::Refused(e) => show::refusal(rt, e),
     }
 }
 
-fn get_range_offset(call: Call, table: &[u8]) {
+fn get_range_offset(rt: &impl Print, call: Call, table: &[u8]) -> io::Result<()> {
     let encoding = call.encoding;
     let endian = call.endian;
     let base = DebugRngListsBase(call.a);
     let index = DebugRngListsIndex(call.b);
-    range_offset(tables::rnglists::get_offset(table, encoding, base, index, endian));
+    range_offset(
+        rt,
+        tables::rnglists::get_offset(table, encoding, base, index, endian),
+    )
 }
 
-fn location_offset(r: LocationOffsetAnswer) {
+fn location_offset(rt: &impl Print, r: LocationOffsetAnswer) -> io::Result<()> {
     match r {
-        LocationOffsetAnswer::Offset(x) => show::value(x.0),
-        LocationOffsetAnswer::Refused(e) => show::refusal(e),
+        LocationOffsetAnswer::Offset(x) => show::value(rt, x.0),
+        LocationOffsetAnswer::Refused(e) => show::refusal(rt, e),
     }
 }
 
-fn get_location_offset(call: Call, table: &[u8]) {
+fn get_location_offset(rt: &impl Print, call: Call, table: &[u8]) -> io::Result<()> {
     let encoding = call.encoding;
     let endian = call.endian;
     let base = DebugLocListsBase(call.a);
     let index = DebugLocListsIndex(call.b);
-    location_offset(tables::loclists::get_offset(table, encoding, base, index, endian));
+    location_offset(
+        rt,
+        tables::loclists::get_offset(table, encoding, base, index, endian),
+    )
 }
 
 // Numbers are written in hexadecimal: 32 and 64 as they read.
@@ -69,45 +79,45 @@ fn bits(format: Format) -> u64 {
     }
 }
 
-fn encoding(x: Encoding) {
+fn encoding(rt: &impl Print, x: Encoding) -> io::Result<()> {
     let format = x.format;
-    show::one(b" format", bits(format));
-    show::one(b" version", x.version as u64);
-    show::one(b" size", x.address_size as u64);
+    show::one(rt, b" format", bits(format))?;
+    show::one(rt, b" version", x.version as u64)?;
+    show::one(rt, b" size", x.address_size as u64)
 }
 
-fn span(name: &[u8], x: Span) {
-    show::two(name, x.offset as u64, x.len as u64);
+fn span(rt: &impl Print, name: &[u8], x: Span) -> io::Result<()> {
+    show::two(rt, name, x.offset as u64, x.len as u64)
 }
 
-fn lists_header(header: ListsHeader, rest: Span) {
+fn lists_header(rt: &impl Print, header: ListsHeader, rest: Span) -> io::Result<()> {
     let e = header.encoding;
-    show::one(b"header", header.size());
-    encoding(e);
-    show::one(b" count", header.offset_entry_count);
-    span(b" rest", rest);
-    show::end_line();
+    show::one(rt, b"header", header.size())?;
+    encoding(rt, e)?;
+    show::one(rt, b" count", header.offset_entry_count)?;
+    span(rt, b" rest", rest)?;
+    show::end_line(rt)
 }
 
-fn lists_answer(r: ListsAnswer) {
+fn lists_answer(rt: &impl Print, r: ListsAnswer) -> io::Result<()> {
     match r {
-        ListsAnswer::Header(header, rest) => lists_header(header, rest),
-        ListsAnswer::Refused(e) => show::refusal(e),
+        ListsAnswer::Header(header, rest) => lists_header(rt, header, rest),
+        ListsAnswer::Refused(e) => show::refusal(rt, e),
     }
 }
 
 // How many bytes a walk over addresses has left.
-fn left_of(walk: AddrEntryIter) {
+fn left_of(rt: &impl Print, walk: AddrEntryIter) -> io::Result<()> {
     let rest = walk.entries;
-    show::one(b" left", rest.len as u64);
-    show::end_line();
+    show::one(rt, b" left", rest.len as u64)?;
+    show::end_line(rt)
 }
 
-fn entry(r: NextEntry) {
+fn entry(rt: &impl Print, r: NextEntry) -> io::Result<()> {
     match r {
-        NextEntry::Address(x, _) => show::one(b"address", x),
-        NextEntry::End(_) => show::say(b"end"),
-        NextEntry::Refused(e, _) => show::refused(e),
+        NextEntry::Address(x, _) => show::one(rt, b"address", x),
+        NextEntry::End(_) => show::say(rt, b"end"),
+        NextEntry::Refused(e, _) => show::refused(rt, e),
     }
 }
 
@@ -126,32 +136,38 @@ fn entries_end(r: NextEntry) -> bool {
     }
 }
 
-fn entries(table: &[u8], endian: RunTimeEndian, start: AddrEntryIter) {
+fn entries(
+    rt: &impl Print,
+    table: &[u8],
+    endian: RunTimeEndian,
+    start: AddrEntryIter,
+) -> io::Result<()> {
     let mut walk = start;
     let mut left = show::CALLS;
     while 0 < left {
         let r = walk.next(table, endian);
         walk = after_entry(r);
-        entry(r);
-        left_of(walk);
+        entry(rt, r)?;
+        left_of(rt, walk)?;
         left = show::fewer(left, entries_end(r));
     }
+    Ok(())
 }
 
-fn header(x: AddrHeader) {
+fn header(rt: &impl Print, x: AddrHeader) -> io::Result<()> {
     let offset = x.offset;
     let e = x.encoding;
     let addresses = x.entries;
-    show::two(b"table", offset.0, x.length);
-    encoding(e);
-    span(b" entries", addresses);
+    show::two(rt, b"table", offset.0, x.length)?;
+    encoding(rt, e)?;
+    span(rt, b" entries", addresses)
 }
 
-fn table_answer(r: NextHeader) {
+fn table_answer(rt: &impl Print, r: NextHeader) -> io::Result<()> {
     match r {
-        NextHeader::Header(x, _) => header(x),
-        NextHeader::End(_) => show::say(b"end"),
-        NextHeader::Refused(e, _) => show::refused(e),
+        NextHeader::Header(x, _) => header(rt, x),
+        NextHeader::End(_) => show::say(rt, b"end"),
+        NextHeader::Refused(e, _) => show::refused(rt, e),
     }
 }
 
@@ -171,39 +187,45 @@ fn tables_end(r: NextHeader) -> bool {
 }
 
 // The addresses of a table, where there is one.
-fn table_entries(table: &[u8], endian: RunTimeEndian, r: NextHeader) {
+fn table_entries(
+    rt: &impl Print,
+    table: &[u8],
+    endian: RunTimeEndian,
+    r: NextHeader,
+) -> io::Result<()> {
     let NextHeader::Header(x, _) = r else {
-        return;
+        return Ok(());
     };
-    entries(table, endian, x.entries());
+    entries(rt, table, endian, x.entries())
 }
 
-fn stands(walk: AddrHeaderIter) {
-    show::one(b" at", walk.at as u64);
-    show::end_line();
+fn stands(rt: &impl Print, walk: AddrHeaderIter) -> io::Result<()> {
+    show::one(rt, b" at", walk.at as u64)?;
+    show::end_line(rt)
 }
 
-fn walk_headers(table: &[u8], endian: RunTimeEndian) {
+fn walk_headers(rt: &impl Print, table: &[u8], endian: RunTimeEndian) -> io::Result<()> {
     let mut walk = AddrHeaderIter { at: 0 };
     let mut left = show::CALLS;
     while 0 < left {
         let r = walk.next(table, endian);
         walk = after_table(r);
-        table_answer(r);
-        stands(walk);
-        table_entries(table, endian, r);
+        table_answer(rt, r)?;
+        stands(rt, walk)?;
+        table_entries(rt, table, endian, r)?;
         left = show::fewer(left, tables_end(r));
     }
+    Ok(())
 }
 
-pub(crate) fn answer(call: Call, table: &[u8]) {
+pub(crate) fn answer(rt: &impl Print, call: Call, table: &[u8]) -> io::Result<()> {
     let endian = call.endian;
     let what = call.what;
     match what {
-        12 => get_address(call, table),
-        13 => walk_headers(table, endian),
-        14 => lists_answer(ListsHeader::parse(table, 0, endian)),
-        15 => get_range_offset(call, table),
-        _ => get_location_offset(call, table),
+        12 => get_address(rt, call, table),
+        13 => walk_headers(rt, table, endian),
+        14 => lists_answer(rt, ListsHeader::parse(table, 0, endian)),
+        15 => get_range_offset(rt, call, table),
+        _ => get_location_offset(rt, call, table),
     }
 }

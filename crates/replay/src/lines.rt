@@ -58,8 +58,7 @@ fn digit(x: u8) -> u64
 
 fn number(line: &[u8], start: usize) -> Took {
     let mut value: u64 = 0;
-    let mut i = start;
-    while i < line.len() {
+    for i in start..line.len() {
         let x = line[i];
         if x <= b' ' {
             if i == start {
@@ -75,7 +74,6 @@ fn number(line: &[u8], start: usize) -> Took {
             return Took::Bad;
         }
         value = value * 16 + d;
-        i += 1;
     }
     Took::Bad
 }
@@ -174,14 +172,12 @@ fn call_of(words: &[u64; 9], at: usize) -> Call {
 
 fn numbers(line: &[u8], words: &mut [u64; 9]) -> Took {
     let mut at: usize = 0;
-    let mut i: usize = 0;
-    while i < 9 {
+    for i in 0..9 {
         let Took::Got(value, after) = number(line, at) else {
             return Took::Bad;
         };
         words[i] = value;
         at = after;
-        i += 1;
     }
     Took::Got(0, at)
 }

@@ -7,6 +7,7 @@ use lists::Walk;
 use lists::loclists::{LocationAnswer, LocationConverted, RawLocationAnswer};
 use lookups::LocationFound;
 use section_bytes::common::{DebugAddrBase, DwarfFileType, LocationListsOffset};
+use std::io;
 
 // All but a default location are told by their bounds.
 fn form(x: RawLocListEntry) -> Form {
@@ -27,90 +28,125 @@ fn file_type_of(call: Call) -> DwarfFileType {
     DwarfFileType::Main
 }
 
-fn next_answer(r: LocationAnswer) -> Turn {
+fn next_answer(rt: &impl Print, r: LocationAnswer) -> io::Result<Turn> {
     match r {
-        LocationAnswer::Location(x, after) => show::location(x, after),
-        LocationAnswer::End(after) => show::ended(after),
-        LocationAnswer::Refused(e, after) => show::refused_at(e, after),
+        LocationAnswer::Location(x, after) => show::location(rt, x, after),
+        LocationAnswer::End(after) => show::ended(rt, after),
+        LocationAnswer::Refused(e, after) => show::refused_at(rt, e, after),
     }
 }
 
-pub(crate) fn next(section: &[u8], table: &[u8], call: Call, walk: Walk) -> Turn {
+pub(crate) fn next(
+    rt: &impl Print,
+    section: &[u8],
+    table: &[u8],
+    call: Call,
+    walk: Walk,
+) -> io::Result<Turn> {
     let encoding = call.encoding;
     let endian = call.endian;
     let base = DebugAddrBase(call.c);
     let file_type = file_type_of(call);
-    next_answer(lists::loclists::next(section, table, base, walk, encoding, endian, file_type))
+    next_answer(
+        rt,
+        lists::loclists::next(section, table, base, walk, encoding, endian, file_type),
+    )
 }
 
-fn converted(r: LocationConverted) -> Turn {
+fn converted(rt: &impl Print, r: LocationConverted) -> io::Result<Turn> {
     match r {
-        LocationConverted::Location(x, after) => show::location(x, after),
-        LocationConverted::Nothing(after) => show::nothing(after),
-        LocationConverted::Refused(e, after) => show::refused_at(e, after),
+        LocationConverted::Location(x, after) => show::location(rt, x, after),
+        LocationConverted::Nothing(after) => show::nothing(rt, after),
+        LocationConverted::Refused(e, after) => show::refused_at(rt, e, after),
     }
 }
 
-fn convert(raw: RawLocListEntry, table: &[u8], call: Call, walk: Walk) -> Turn {
+fn convert(
+    rt: &impl Print,
+    raw: RawLocListEntry,
+    table: &[u8],
+    call: Call,
+    walk: Walk,
+) -> io::Result<Turn> {
     let encoding = call.encoding;
     let endian = call.endian;
     let base = DebugAddrBase(call.c);
-    converted(lists::loclists::convert_raw(raw, table, base, walk, encoding, endian))
+    converted(
+        rt,
+        lists::loclists::convert_raw(raw, table, base, walk, encoding, endian),
+    )
 }
 
 // Two zeros stand for an expression that an entry lacks.
-fn raw_entry(raw: RawLocListEntry, walk: Walk) -> Turn {
-    show::raw(form(raw));
-    show::expression(lists::convert::expression_of(raw));
-    show::stands(walk)
+fn raw_entry(rt: &impl Print, raw: RawLocListEntry, walk: Walk) -> io::Result<Turn> {
+    show::raw(rt, form(raw))?;
+    show::expression(rt, lists::convert::expression_of(raw))?;
+    show::stands(rt, walk)
 }
 
-fn raw_answer(r: RawLocationAnswer) -> Turn {
+fn raw_answer(rt: &impl Print, r: RawLocationAnswer) -> io::Result<Turn> {
     match r {
-        RawLocationAnswer::Entry(raw, _, after) => raw_entry(raw, after),
-        RawLocationAnswer::End(after) => show::ended(after),
-        RawLocationAnswer::Refused(e, after) => show::refused_at(e, after),
+        RawLocationAnswer::Entry(raw, _, after) => raw_entry(rt, raw, after),
+        RawLocationAnswer::End(after) => show::ended(rt, after),
+        RawLocationAnswer::Refused(e, after) => show::refused_at(rt, e, after),
     }
 }
 
-pub(crate) fn next_raw(section: &[u8], call: Call, walk: Walk) -> Turn {
+pub(crate) fn next_raw(
+    rt: &impl Print,
+    section: &[u8],
+    call: Call,
+    walk: Walk,
+) -> io::Result<Turn> {
     let encoding = call.encoding;
     let endian = call.endian;
     let file_type = file_type_of(call);
-    raw_answer(lists::loclists::next_raw(section, walk, encoding, endian, file_type))
+    raw_answer(
+        rt,
+        lists::loclists::next_raw(section, walk, encoding, endian, file_type),
+    )
 }
 
 // A raw entry, and what it comes to.
-pub(crate) fn next_converted(section: &[u8], table: &[u8], call: Call, walk: Walk) -> Turn {
+pub(crate) fn next_converted(
+    rt: &impl Print,
+    section: &[u8],
+    table: &[u8],
+    call: Call,
+    walk: Walk,
+) -> io::Result<Turn> {
     let encoding = call.encoding;
     let endian = call.endian;
     let file_type = file_type_of(call);
     let r = lists::loclists::next_raw(section, walk, encoding, endian, file_type);
-    let turn = raw_answer(r);
+    let turn = raw_answer(rt, r)?;
     let RawLocationAnswer::Entry(raw, _, after) = r else {
-        return turn;
+        return Ok(turn);
     };
-    convert(raw, table, call, after)
+    convert(rt, raw, table, call, after)
 }
 
-fn found(r: LocationFound) {
+fn found(rt: &impl Print, r: LocationFound) -> io::Result<()> {
     match r {
         LocationFound::Found(x) => {
-            show::located(x);
-            show::end_line();
+            show::located(rt, x)?;
+            show::end_line(rt)
         }
-        LocationFound::NotThere => show::say(b"not there\n"),
-        LocationFound::Refused(e) => show::refusal(e),
+        LocationFound::NotThere => show::say(rt, b"not there\n"),
+        LocationFound::Refused(e) => show::refusal(rt, e),
     }
 }
 
-pub(crate) fn look_up(section: &[u8], table: &[u8], call: Call) {
+pub(crate) fn look_up(rt: &impl Print, section: &[u8], table: &[u8], call: Call) -> io::Result<()> {
     let encoding = call.encoding;
     let endian = call.endian;
     let base = DebugAddrBase(call.c);
     let at = LocationListsOffset(call.a);
     let file_type = file_type_of(call);
-    found(lookups::lookup_location(
-        section, table, base, at, call.b, encoding, endian, file_type, call.d,
-    ));
+    found(
+        rt,
+        lookups::lookup_location(
+            section, table, base, at, call.b, encoding, endian, file_type, call.d,
+        ),
+    )
 }

@@ -1,6 +1,8 @@
 // gimli's answers again, with no gimli at hand. Standard input has a call on each line; the program makes it with the
 // port and writes the line and the answers below it; a line that is no call ends it with `bad record`. The file stdout
 // has what gimli answered. compare/make-replay writes both files.
+#![tactic(auto)]
+
 mod headers;
 mod lines;
 mod locations;
@@ -9,47 +11,56 @@ mod ranges;
 mod show;
 mod walks;
 
-ghost use Rattle.std.specs.Prelude.{◌≤◌, ◌<◌, length};
+ghost use Rattle.std.specs.Prelude.{◌≤◌, ◌<◌, length, take, IfOk};
+ghost use Rattle.std.specs.Io.KnownBytes.{Consumes, IsAtEnd};
 
-use libc::STDIN_FILENO;
 use lines::{Call, Parsed, ROOM, Took};
+use std::io;
+use std::io::Read;
 
 // One byte more than the longest input has.
 const INPUT: usize = 500001;
 
 // The calls on lists, and those that look at one section; false where there is no such call.
-fn answer<'a>(call: Call, old: &'a [u8], new: &'a [u8], table: &[u8]) -> bool {
+fn answer<'a>(
+    rt: &impl Print,
+    call: Call,
+    old: &'a [u8],
+    new: &'a [u8],
+    table: &[u8],
+) -> io::Result<bool> {
     let what = call.what;
     if what < 12 {
-        walks::answer(call, old, new, table);
-        return true;
+        walks::answer(rt, call, old, new, table)?;
+        return Ok(true);
     }
     if what < 17 {
-        headers::answer(call, table);
-        return true;
+        headers::answer(rt, call, table)?;
+        return Ok(true);
     }
-    numbers::answer(call, table)
+    numbers::answer(rt, call, table)
 }
 
 // The three sections of a call, and its answers; false where the line is no call.
-fn replay_call(line: &[u8], call: Call) -> bool {
+fn replay_call(rt: &impl Print, line: &[u8], call: Call) -> io::Result<bool> {
     let mut old = [0u8; ROOM];
     let mut new = [0u8; ROOM];
     let mut table = [0u8; ROOM];
     let Took::Got(n, at) = lines::octets(line, call.at, &mut old) else {
-        return false;
+        return Ok(false);
     };
     let Took::Got(m, at1) = lines::octets(line, at, &mut new) else {
-        return false;
+        return Ok(false);
     };
     let Took::Got(k, at2) = lines::octets(line, at1, &mut table) else {
-        return false;
+        return Ok(false);
     };
     if at2 != line.len() {
-        return false;
+        return Ok(false);
     }
-    show::say(line);
+    show::say(rt, line)?;
     answer(
+        rt,
         call,
         lines::first(&old, n),
         lines::first(&new, m),
@@ -57,10 +68,10 @@ fn replay_call(line: &[u8], call: Call) -> bool {
     )
 }
 
-fn replay_line(line: &[u8]) -> bool {
+fn replay_line(rt: &impl Print, line: &[u8]) -> io::Result<bool> {
     match lines::parse(line) {
-        Parsed::Call(call) => replay_call(line, call),
-        Parsed::Bad => false,
+        Parsed::Call(call) => replay_call(rt, line, call),
+        Parsed::Bad => Ok(false),
     }
 }
 
@@ -79,25 +90,43 @@ fn line_end(text: &[u8], at: usize) -> usize
     text.len()
 }
 
-fn replay(text: &[u8]) {
+fn replay(rt: &impl Print, text: &[u8]) -> io::Result<()> {
     let mut at = 0;
     while at < text.len() {
         let end = line_end(text, at);
-        if replay_line(&text[at..end]) {
+        if replay_line(rt, &text[at..end])? {
             at = end;
         } else {
-            show::say(b"bad record\n");
-            return;
+            return show::say(rt, b"bad record\n");
         }
     }
+    Ok(())
 }
 
-fn main() {
-    let mut text = [0u8; INPUT];
-    let n = io::read_full(STDIN_FILENO, &mut text);
-    if n == INPUT {
-        show::say(b"bad record\n");
-        return;
+// Reads until the room is full or the input ends, and answers how many bytes there are. Of an input whose bytes are known they
+// are the first ones, and all of them where there is room left.
+fn read_full<R: Read>(input: &mut R, room: &mut [u8]) -> io::Result<usize>
+    ensures within { IfOk result (λ n. n ≤ length room.new) }
+    ensures bytes { IfOk result (λ n.
+        Consumes (R.remaining input.old) (R.remaining input.new) (take n room.new)) }
+    ensures end { IfOk result (λ n. n < length room.new → IsAtEnd (R.remaining input.new)) }
+{
+    let mut done = 0;
+    while done < room.len() {
+        let n = input.read(&mut room[done..])?;
+        if n == 0 {
+            return Ok(done);
+        }
+        done += n;
     }
-    replay(&text[..n]);
+    Ok(done)
+}
+
+fn main(rt: HostRuntime) -> io::Result<()> {
+    let mut text = [0u8; INPUT];
+    let n = read_full(&mut rt.reader(), &mut text)?;
+    if n == INPUT {
+        return show::say(&rt, b"bad record\n");
+    }
+    replay(&rt, &text[..n])
 }

@@ -7,6 +7,7 @@ use lists::Walk;
 use lists::rnglists::{RangeAnswer, RangeConverted, RawRangeAnswer};
 use lookups::RangeFound;
 use section_bytes::common::{DebugAddrBase, RangeListsOffset};
+use std::io;
 
 pub(crate) fn form(x: RawRngListEntry) -> Form {
     match x {
@@ -53,82 +54,117 @@ pub(crate) fn form(x: RawRngListEntry) -> Form {
     }
 }
 
-fn next_answer(r: RangeAnswer) -> Turn {
+fn next_answer(rt: &impl Print, r: RangeAnswer) -> io::Result<Turn> {
     match r {
-        RangeAnswer::Range(x, after) => show::range(x, after),
-        RangeAnswer::End(after) => show::ended(after),
-        RangeAnswer::Refused(e, after) => show::refused_at(e, after),
+        RangeAnswer::Range(x, after) => show::range(rt, x, after),
+        RangeAnswer::End(after) => show::ended(rt, after),
+        RangeAnswer::Refused(e, after) => show::refused_at(rt, e, after),
     }
 }
 
-pub(crate) fn next(section: &[u8], table: &[u8], call: Call, walk: Walk) -> Turn {
+pub(crate) fn next(
+    rt: &impl Print,
+    section: &[u8],
+    table: &[u8],
+    call: Call,
+    walk: Walk,
+) -> io::Result<Turn> {
     let encoding = call.encoding;
     let endian = call.endian;
     let base = DebugAddrBase(call.c);
-    next_answer(lists::rnglists::next(section, table, base, walk, encoding, endian))
+    next_answer(
+        rt,
+        lists::rnglists::next(section, table, base, walk, encoding, endian),
+    )
 }
 
-fn converted(r: RangeConverted) -> Turn {
+fn converted(rt: &impl Print, r: RangeConverted) -> io::Result<Turn> {
     match r {
-        RangeConverted::Range(x, after) => show::range(x, after),
-        RangeConverted::Nothing(after) => show::nothing(after),
-        RangeConverted::Refused(e, after) => show::refused_at(e, after),
+        RangeConverted::Range(x, after) => show::range(rt, x, after),
+        RangeConverted::Nothing(after) => show::nothing(rt, after),
+        RangeConverted::Refused(e, after) => show::refused_at(rt, e, after),
     }
 }
 
-fn convert(raw: RawRngListEntry, table: &[u8], call: Call, walk: Walk) -> Turn {
+fn convert(
+    rt: &impl Print,
+    raw: RawRngListEntry,
+    table: &[u8],
+    call: Call,
+    walk: Walk,
+) -> io::Result<Turn> {
     let encoding = call.encoding;
     let endian = call.endian;
     let base = DebugAddrBase(call.c);
-    converted(lists::rnglists::convert_raw(raw, table, base, walk, encoding, endian))
+    converted(
+        rt,
+        lists::rnglists::convert_raw(raw, table, base, walk, encoding, endian),
+    )
 }
 
-fn raw_entry(raw: RawRngListEntry, walk: Walk) -> Turn {
-    show::raw(form(raw));
-    show::stands(walk)
+fn raw_entry(rt: &impl Print, raw: RawRngListEntry, walk: Walk) -> io::Result<Turn> {
+    show::raw(rt, form(raw))?;
+    show::stands(rt, walk)
 }
 
-fn raw_answer(r: RawRangeAnswer) -> Turn {
+fn raw_answer(rt: &impl Print, r: RawRangeAnswer) -> io::Result<Turn> {
     match r {
-        RawRangeAnswer::Entry(raw, _, after) => raw_entry(raw, after),
-        RawRangeAnswer::End(after) => show::ended(after),
-        RawRangeAnswer::Refused(e, after) => show::refused_at(e, after),
+        RawRangeAnswer::Entry(raw, _, after) => raw_entry(rt, raw, after),
+        RawRangeAnswer::End(after) => show::ended(rt, after),
+        RawRangeAnswer::Refused(e, after) => show::refused_at(rt, e, after),
     }
 }
 
-pub(crate) fn next_raw(section: &[u8], call: Call, walk: Walk) -> Turn {
+pub(crate) fn next_raw(
+    rt: &impl Print,
+    section: &[u8],
+    call: Call,
+    walk: Walk,
+) -> io::Result<Turn> {
     let encoding = call.encoding;
     let endian = call.endian;
-    raw_answer(lists::rnglists::next_raw(section, walk, encoding, endian))
+    raw_answer(
+        rt,
+        lists::rnglists::next_raw(section, walk, encoding, endian),
+    )
 }
 
 // A raw entry, and what it comes to.
-pub(crate) fn next_converted(section: &[u8], table: &[u8], call: Call, walk: Walk) -> Turn {
+pub(crate) fn next_converted(
+    rt: &impl Print,
+    section: &[u8],
+    table: &[u8],
+    call: Call,
+    walk: Walk,
+) -> io::Result<Turn> {
     let encoding = call.encoding;
     let endian = call.endian;
     let r = lists::rnglists::next_raw(section, walk, encoding, endian);
-    let turn = raw_answer(r);
+    let turn = raw_answer(rt, r)?;
     let RawRangeAnswer::Entry(raw, _, after) = r else {
-        return turn;
+        return Ok(turn);
     };
-    convert(raw, table, call, after)
+    convert(rt, raw, table, call, after)
 }
 
-fn found(r: RangeFound) {
+fn found(rt: &impl Print, r: RangeFound) -> io::Result<()> {
     match r {
         RangeFound::Found(x) => {
-            show::two(b"range", x.begin, x.end);
-            show::end_line();
+            show::two(rt, b"range", x.begin, x.end)?;
+            show::end_line(rt)
         }
-        RangeFound::NotThere => show::say(b"not there\n"),
-        RangeFound::Refused(e) => show::refusal(e),
+        RangeFound::NotThere => show::say(rt, b"not there\n"),
+        RangeFound::Refused(e) => show::refusal(rt, e),
     }
 }
 
-pub(crate) fn look_up(section: &[u8], table: &[u8], call: Call) {
+pub(crate) fn look_up(rt: &impl Print, section: &[u8], table: &[u8], call: Call) -> io::Result<()> {
     let encoding = call.encoding;
     let endian = call.endian;
     let base = DebugAddrBase(call.c);
     let at = RangeListsOffset(call.a);
-    found(lookups::lookup_range(section, table, base, at, call.b, encoding, endian, call.d));
+    found(
+        rt,
+        lookups::lookup_range(section, table, base, at, call.b, encoding, endian, call.d),
+    )
 }

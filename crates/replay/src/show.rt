@@ -2,41 +2,41 @@
 ghost use Rattle.std.specs.Prelude.{◌<◌};
 
 use entries::{Expression, constants};
-use libc::STDOUT_FILENO;
 use lists::{LocationListEntry, Opened, Range, Walk};
 use section_bytes::Num;
 use section_bytes::error::Error;
+use std::io;
 
-pub(crate) fn say(text: &[u8]) {
-    io::write_all(STDOUT_FILENO, text);
+pub(crate) fn say(rt: &impl Print, text: &[u8]) -> io::Result<()> {
+    rt.write_all(text)
 }
 
-pub(crate) fn put(n: u64) {
-    say(b" ");
-    io::print_hex(STDOUT_FILENO, n, 1);
+pub(crate) fn put(rt: &impl Print, n: u64) -> io::Result<()> {
+    say(rt, b" ")?;
+    print!(rt; "{n:x}")
 }
 
-pub(crate) fn end_line() {
-    say(b"\n");
+pub(crate) fn end_line(rt: &impl Print) -> io::Result<()> {
+    say(rt, b"\n")
 }
 
-pub(crate) fn one(name: &[u8], a: u64) {
-    say(name);
-    put(a);
+pub(crate) fn one(rt: &impl Print, name: &[u8], a: u64) -> io::Result<()> {
+    say(rt, name)?;
+    put(rt, a)
 }
 
-pub(crate) fn two(name: &[u8], a: u64, b: u64) {
-    one(name, a);
-    put(b);
+pub(crate) fn two(rt: &impl Print, name: &[u8], a: u64, b: u64) -> io::Result<()> {
+    one(rt, name, a)?;
+    put(rt, b)
 }
 
-pub(crate) fn expression(x: Expression) {
-    two(b" expression", x.offset as u64, x.len as u64);
+pub(crate) fn expression(rt: &impl Print, x: Expression) -> io::Result<()> {
+    two(rt, b" expression", x.offset as u64, x.len as u64)
 }
 
 // The refusal's number, and its value, 0 where it has none.
-pub(crate) fn refused(e: Error) {
-    two(b"refused", e.number(), e.value());
+pub(crate) fn refused(rt: &impl Print, e: Error) -> io::Result<()> {
+    two(rt, b"refused", e.number(), e.value())
 }
 
 // A raw entry: the code of its kind in a location list, and its numbers, 0 where it has fewer.
@@ -47,24 +47,24 @@ pub struct Form {
     pub b: u64,
 }
 
-fn say_form(code: u64) {
+fn say_form(rt: &impl Print, code: u64) -> io::Result<()> {
     match code {
-        constants::ADDRESS_OR_OFFSET_PAIR => say(b"AddressOrOffsetPair"),
-        constants::DW_LLE_base_address => say(b"BaseAddress"),
-        constants::DW_LLE_base_addressx => say(b"BaseAddressx"),
-        constants::DW_LLE_startx_endx => say(b"StartxEndx"),
-        constants::DW_LLE_startx_length => say(b"StartxLength"),
-        constants::DW_LLE_offset_pair => say(b"OffsetPair"),
-        constants::DW_LLE_default_location => say(b"DefaultLocation"),
-        constants::DW_LLE_start_end => say(b"StartEnd"),
-        _ => say(b"StartLength"),
+        constants::ADDRESS_OR_OFFSET_PAIR => say(rt, b"AddressOrOffsetPair"),
+        constants::DW_LLE_base_address => say(rt, b"BaseAddress"),
+        constants::DW_LLE_base_addressx => say(rt, b"BaseAddressx"),
+        constants::DW_LLE_startx_endx => say(rt, b"StartxEndx"),
+        constants::DW_LLE_startx_length => say(rt, b"StartxLength"),
+        constants::DW_LLE_offset_pair => say(rt, b"OffsetPair"),
+        constants::DW_LLE_default_location => say(rt, b"DefaultLocation"),
+        constants::DW_LLE_start_end => say(rt, b"StartEnd"),
+        _ => say(rt, b"StartLength"),
     }
 }
 
-pub(crate) fn raw(x: Form) {
-    say_form(x.code);
-    put(x.a);
-    put(x.b);
+pub(crate) fn raw(rt: &impl Print, x: Form) -> io::Result<()> {
+    say_form(rt, x.code)?;
+    put(rt, x.a)?;
+    put(rt, x.b)
 }
 
 // A walk after a call, and whether the call said the end.
@@ -74,44 +74,44 @@ pub struct Turn {
     pub ended: bool,
 }
 
-pub(crate) fn stands(walk: Walk) -> Turn {
-    one(b" at", walk.at as u64);
-    one(b" base", walk.base_address);
-    end_line();
-    Turn { walk, ended: false }
+pub(crate) fn stands(rt: &impl Print, walk: Walk) -> io::Result<Turn> {
+    one(rt, b" at", walk.at as u64)?;
+    one(rt, b" base", walk.base_address)?;
+    end_line(rt)?;
+    Ok(Turn { walk, ended: false })
 }
 
-pub(crate) fn ended(walk: Walk) -> Turn {
-    say(b"end");
-    stands(walk);
-    Turn { walk, ended: true }
+pub(crate) fn ended(rt: &impl Print, walk: Walk) -> io::Result<Turn> {
+    say(rt, b"end")?;
+    stands(rt, walk)?;
+    Ok(Turn { walk, ended: true })
 }
 
-pub(crate) fn refused_at(e: Error, walk: Walk) -> Turn {
-    refused(e);
-    stands(walk)
+pub(crate) fn refused_at(rt: &impl Print, e: Error, walk: Walk) -> io::Result<Turn> {
+    refused(rt, e)?;
+    stands(rt, walk)
 }
 
-pub(crate) fn nothing(walk: Walk) -> Turn {
-    say(b"nothing");
-    stands(walk)
+pub(crate) fn nothing(rt: &impl Print, walk: Walk) -> io::Result<Turn> {
+    say(rt, b"nothing")?;
+    stands(rt, walk)
 }
 
-pub(crate) fn range(x: Range, walk: Walk) -> Turn {
-    two(b"range", x.begin, x.end);
-    stands(walk)
+pub(crate) fn range(rt: &impl Print, x: Range, walk: Walk) -> io::Result<Turn> {
+    two(rt, b"range", x.begin, x.end)?;
+    stands(rt, walk)
 }
 
-pub(crate) fn located(x: LocationListEntry) {
+pub(crate) fn located(rt: &impl Print, x: LocationListEntry) -> io::Result<()> {
     let span = x.range;
     let data = x.data;
-    two(b"location", span.begin, span.end);
-    expression(data);
+    two(rt, b"location", span.begin, span.end)?;
+    expression(rt, data)
 }
 
-pub(crate) fn location(x: LocationListEntry, walk: Walk) -> Turn {
-    located(x);
-    stands(walk)
+pub(crate) fn location(rt: &impl Print, x: LocationListEntry, walk: Walk) -> io::Result<Turn> {
+    located(rt, x)?;
+    stands(rt, walk)
 }
 
 // How many calls a walk still gets: one more after the end was said.
@@ -130,33 +130,34 @@ pub(crate) fn fewer(left: u64, ended: bool) -> u64
 // The calls that a walk gets at most.
 pub const CALLS: u64 = 64;
 
-pub(crate) fn refusal(e: Error) {
-    refused(e);
-    end_line();
+pub(crate) fn refusal(rt: &impl Print, e: Error) -> io::Result<()> {
+    refused(rt, e)?;
+    end_line(rt)
 }
 
-pub(crate) fn value(n: u64) {
-    one(b"value", n);
-    end_line();
+pub(crate) fn value(rt: &impl Print, n: u64) -> io::Result<()> {
+    one(rt, b"value", n)?;
+    end_line(rt)
 }
 
-pub(crate) fn num(r: Num) {
+pub(crate) fn num(rt: &impl Print, r: Num) -> io::Result<()> {
     match r {
         Num::Got(n, c) => {
-            two(b"value", n, c as u64);
-            end_line();
+            two(rt, b"value", n, c as u64)?;
+            end_line(rt)
         }
-        Num::Refused(e) => refusal(e),
+        Num::Refused(e) => refusal(rt, e),
     }
 }
 
 // Where an opened walk stands; a refused opening is no walk.
-pub(crate) fn opened(r: Opened) {
+pub(crate) fn opened(rt: &impl Print, r: Opened) -> io::Result<()> {
     match r {
         Opened::List(walk) => {
-            say(b"opened");
-            stands(walk);
+            say(rt, b"opened")?;
+            stands(rt, walk)?;
+            Ok(())
         }
-        Opened::Refused(e) => refusal(e),
+        Opened::Refused(e) => refusal(rt, e),
     }
 }

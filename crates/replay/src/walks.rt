@@ -6,27 +6,29 @@ use super::show::Turn;
 use super::{locations, ranges, show};
 use lists::{Opened, Walk};
 use section_bytes::common::{LocationListsOffset, RangeListsOffset};
+use std::io;
 
-fn turn(section: &[u8], table: &[u8], call: Call, walk: Walk) -> Turn {
+fn turn(rt: &impl Print, section: &[u8], table: &[u8], call: Call, walk: Walk) -> io::Result<Turn> {
     let what = call.what;
     match what {
-        0 => ranges::next(section, table, call, walk),
-        1 => ranges::next_converted(section, table, call, walk),
-        2 => ranges::next_raw(section, call, walk),
-        4 | 8 => locations::next(section, table, call, walk),
-        5 | 9 => locations::next_converted(section, table, call, walk),
-        _ => locations::next_raw(section, call, walk),
+        0 => ranges::next(rt, section, table, call, walk),
+        1 => ranges::next_converted(rt, section, table, call, walk),
+        2 => ranges::next_raw(rt, section, call, walk),
+        4 | 8 => locations::next(rt, section, table, call, walk),
+        5 | 9 => locations::next_converted(rt, section, table, call, walk),
+        _ => locations::next_raw(rt, section, call, walk),
     }
 }
 
-fn walk(section: &[u8], table: &[u8], call: Call, start: Walk) {
+fn walk(rt: &impl Print, section: &[u8], table: &[u8], call: Call, start: Walk) -> io::Result<()> {
     let mut walk = start;
     let mut left = show::CALLS;
     while 0 < left {
-        let t = turn(section, table, call, walk);
+        let t = turn(rt, section, table, call, walk)?;
         walk = t.walk;
         left = show::fewer(left, t.ended);
     }
+    Ok(())
 }
 
 fn open(section: &[u8], call: Call) -> Opened {
@@ -48,21 +50,27 @@ fn section<'a>(call: Call, old: &'a [u8], new: &'a [u8]) -> &'a [u8] {
     lists::loclists::section(old, new, encoding)
 }
 
-fn open_and_walk(section: &[u8], table: &[u8], call: Call) {
+fn open_and_walk(rt: &impl Print, section: &[u8], table: &[u8], call: Call) -> io::Result<()> {
     let r = open(section, call);
-    show::opened(r);
+    show::opened(rt, r)?;
     match r {
-        Opened::List(start) => walk(section, table, call, start),
-        Opened::Refused(_) => {}
+        Opened::List(start) => walk(rt, section, table, call, start),
+        Opened::Refused(_) => Ok(()),
     }
 }
 
-pub(crate) fn answer<'a>(call: Call, old: &'a [u8], new: &'a [u8], table: &[u8]) {
+pub(crate) fn answer<'a>(
+    rt: &impl Print,
+    call: Call,
+    old: &'a [u8],
+    new: &'a [u8],
+    table: &[u8],
+) -> io::Result<()> {
     let s = section(call, old, new);
     let what = call.what;
     match what {
-        3 => ranges::look_up(s, table, call),
-        7 | 11 => locations::look_up(s, table, call),
-        _ => open_and_walk(s, table, call),
+        3 => ranges::look_up(rt, s, table, call),
+        7 | 11 => locations::look_up(rt, s, table, call),
+        _ => open_and_walk(rt, s, table, call),
     }
 }

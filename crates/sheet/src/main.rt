@@ -1,8 +1,11 @@
 // The program over sheets: a sheet on standard input, its ranges on standard output.
-use libc::STDIN_FILENO;
+#![tactic(auto)]
 
-fn main() {
+use std::io;
+
+fn main(rt: HostRuntime) -> io::Result<()> {
     let mut sheet = [0u8; show::ROOM];
-    let n = io::read_full(STDIN_FILENO, &mut sheet);
-    show::show(&sheet[..n]);
+    let n = show::read_full(&mut rt.reader(), &mut sheet)?;
+    show::show(&rt, &sheet[..n])?;
+    Ok(())
 }

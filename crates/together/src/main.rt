@@ -1,103 +1,100 @@
 // Addresses that are looked up together, in range lists and location lists. The file stdout has the answers by docs/SCOPE.md. Behind a
 // list's bytes stands each place whose words are not those of the place before it, with its address and its words, and at the end how
 // many entries were read, or the refusal of the call. Bytes, addresses and words are hexadecimal.
-use libc::STDOUT_FILENO;
+#![tactic(auto)]
+
 use section_bytes::common::{
     DebugAddrBase, DwarfFileType, Encoding, Format, LocationListsOffset, RangeListsOffset,
 };
 use section_bytes::endianity::RunTimeEndian;
 use stacks::answers::Rows;
 use stacks::{MOST, Reading};
+use std::io;
 
 const WORDS: usize = 6;
 
-fn say(text: &[u8]) {
-    io::write_all(STDOUT_FILENO, text);
+fn say(rt: &impl Print, text: &[u8]) -> io::Result<()> {
+    rt.write_all(text)
 }
 
-fn put(name: &[u8], x: u64) {
-    say(name);
-    io::print_hex(STDOUT_FILENO, x, 1);
+fn put(rt: &impl Print, name: &[u8], x: u64) -> io::Result<()> {
+    say(rt, name)?;
+    print!(rt; "{x:x}")
 }
 
-fn count(name: &[u8], n: u64) {
-    say(name);
-    io::print_decimal(STDOUT_FILENO, n);
+fn count(rt: &impl Print, name: &[u8], n: u64) -> io::Result<()> {
+    say(rt, name)?;
+    print!(rt; "{n}")
 }
 
-fn byte(x: u8) {
-    say(b" ");
-    io::print_hex(STDOUT_FILENO, x as u64, 2);
+fn byte(rt: &impl Print, x: u8) -> io::Result<()> {
+    say(rt, b" ")?;
+    print!(rt; "{:02x}", x as u64)
 }
 
-fn print_list(kind: &[u8], list: &[u8]) {
-    say(kind);
-    let mut i: usize = 0;
-    while i < list.len() {
-        byte(list[i]);
-        i += 1;
+fn print_list(rt: &impl Print, kind: &[u8], list: &[u8]) -> io::Result<()> {
+    say(rt, kind)?;
+    for x in list {
+        byte(rt, *x)?;
     }
+    Ok(())
 }
 
 // What the first word of an answer says.
-fn result(first: u64) {
+fn result(rt: &impl Print, first: u64) -> io::Result<()> {
     if first == 0 {
-        say(b" found");
+        say(rt, b" found")
     } else if first == 3 {
-        say(b" not there");
+        say(rt, b" not there")
     } else if first % 0x1_0000_0000 == 4 {
-        count(b" refused ", first / 0x1_0000_0000);
+        count(rt, b" refused ", first / 0x1_0000_0000)
     } else {
-        put(b" left ", first);
+        put(rt, b" left ", first)
     }
 }
 
-fn print_words(row: &[u64; WORDS]) {
-    result(row[0]);
-    let mut i: usize = 1;
-    while i < WORDS {
-        put(b" ", row[i]);
-        i += 1;
+fn print_words(rt: &impl Print, row: &[u64; WORDS]) -> io::Result<()> {
+    result(rt, row[0])?;
+    for i in 1..WORDS {
+        put(rt, b" ", row[i])?;
     }
+    Ok(())
 }
 
 fn same(a: &[u64; WORDS], b: &[u64; WORDS]) -> bool {
-    let mut i: usize = 0;
-    while i < WORDS {
+    for i in 0..WORDS {
         if a[i] != b[i] {
             return false;
         }
-        i += 1;
     }
     true
 }
 
 // A place, with its address if it has one.
-fn place(i: usize, addresses: &[u64], row: &[u64; WORDS]) {
-    count(b"; ", i as u64);
+fn place(rt: &impl Print, i: usize, addresses: &[u64], row: &[u64; WORDS]) -> io::Result<()> {
+    count(rt, b"; ", i as u64)?;
     if i < addresses.len() {
-        put(b": ", addresses[i]);
+        put(rt, b": ", addresses[i])?;
     }
-    print_words(row);
+    print_words(rt, row)
 }
 
-fn places(addresses: &[u64], rows: &Rows) {
-    place(0, addresses, &rows[0]);
-    let mut i: usize = 1;
-    while i < MOST {
+fn places(rt: &impl Print, addresses: &[u64], rows: &Rows) -> io::Result<()> {
+    place(rt, 0, addresses, &rows[0])?;
+    for i in 1..MOST {
         if !same(&rows[i - 1], &rows[i]) {
-            place(i, addresses, &rows[i]);
+            place(rt, i, addresses, &rows[i])?;
         }
-        i += 1;
     }
+    Ok(())
 }
 
-fn print_read(read: Reading) {
+fn print_read(rt: &impl Print, read: Reading) -> io::Result<()> {
     match read {
-        Reading::Entries(n) => count(b"; read ", n),
-        Reading::Refused(e) => count(b"; refused ", e.number()),
+        Reading::Entries(n) => count(rt, b"; read ", n)?,
+        Reading::Refused(e) => count(rt, b"; refused ", e.number())?,
     }
-    say(b"\n");
+    say(rt, b"\n")
 }
 
 fn encoding(version: u16, address_size: u8) -> Encoding {
@@ -114,8 +111,15 @@ fn before() -> Rows {
 }
 
 // The table has two addresses, 10 and 20, behind its header.
-fn ranges(kind: &[u8], p: Encoding, offset: u64, list: &[u8], addresses: &[u64]) {
-    print_list(kind, list);
+fn ranges(
+    rt: &impl Print,
+    kind: &[u8],
+    p: Encoding,
+    offset: u64,
+    list: &[u8],
+    addresses: &[u64],
+) -> io::Result<()> {
+    print_list(rt, kind, list)?;
     let mut rows = before();
     let read = stacks::lookup_ranges(
         list,
@@ -128,12 +132,19 @@ fn ranges(kind: &[u8], p: Encoding, offset: u64, list: &[u8], addresses: &[u64])
         addresses,
         &mut rows,
     );
-    places(addresses, &rows);
-    print_read(read);
+    places(rt, addresses, &rows)?;
+    print_read(rt, read)
 }
 
-fn locations(kind: &[u8], p: Encoding, file_type: DwarfFileType, list: &[u8], addresses: &[u64]) {
-    print_list(kind, list);
+fn locations(
+    rt: &impl Print,
+    kind: &[u8],
+    p: Encoding,
+    file_type: DwarfFileType,
+    list: &[u8],
+    addresses: &[u64],
+) -> io::Result<()> {
+    print_list(rt, kind, list)?;
     let mut rows = before();
     let read = stacks::lookup_locations(
         list,
@@ -147,13 +158,13 @@ fn locations(kind: &[u8], p: Encoding, file_type: DwarfFileType, list: &[u8], ad
         addresses,
         &mut rows,
     );
-    places(addresses, &rows);
-    print_read(read);
+    places(rt, addresses, &rows)?;
+    print_read(rt, read)
 }
 
 // By the eight codes the other way round, kind 7 first.
-fn by_table(list: &[u8], addresses: &[u64]) {
-    print_list(b"ranges by a table:", list);
+fn by_table(rt: &impl Print, list: &[u8], addresses: &[u64]) -> io::Result<()> {
+    print_list(rt, b"ranges by a table:", list)?;
     let p = encoding(5, 4);
     let mut rows = before();
     let read = stacks::lookup_ranges_by(
@@ -168,175 +179,185 @@ fn by_table(list: &[u8], addresses: &[u64]) {
         addresses,
         &mut rows,
     );
-    places(addresses, &rows);
-    print_read(read);
+    places(rt, addresses, &rows)?;
+    print_read(rt, read)
 }
 
-fn plain(list: &[u8], addresses: &[u64]) {
-    ranges(b"ranges:", encoding(5, 4), 0, list, addresses);
+fn plain(rt: &impl Print, list: &[u8], addresses: &[u64]) -> io::Result<()> {
+    ranges(rt, b"ranges:", encoding(5, 4), 0, list, addresses)
 }
 
-fn located(list: &[u8], addresses: &[u64]) {
+fn located(rt: &impl Print, list: &[u8], addresses: &[u64]) -> io::Result<()> {
     let p = encoding(5, 4);
-    locations(b"locations:", p, DwarfFileType::Main, list, addresses);
+    locations(rt, b"locations:", p, DwarfFileType::Main, list, addresses)
 }
 
 // 10 to 20, 30 to 40, and a kind that there is not.
-fn damaged(addresses: &[u64]) {
-    plain(b"\x07\x10\0\0\0\x10\x07\x30\0\0\0\x10\x08", addresses);
+fn damaged(rt: &impl Print, addresses: &[u64]) -> io::Result<()> {
+    plain(rt, b"\x07\x10\0\0\0\x10\x07\x30\0\0\0\x10\x08", addresses)
 }
 
-fn few() {
-    damaged(&[]);
-    damaged(&[0x10]);
-    damaged(&[0x10, 0x10, 0x1f]);
-    damaged(&[0x10, 0x35]);
+fn few(rt: &impl Print) -> io::Result<()> {
+    damaged(rt, &[])?;
+    damaged(rt, &[0x10])?;
+    damaged(rt, &[0x10, 0x10, 0x1f])?;
+    damaged(rt, &[0x10, 0x35])
 }
 
-fn between() {
-    damaged(&[0x10, 0x20, 0x35]);
-    damaged(&[0x20]);
-    damaged(&[0x35, 0x10]);
+fn between(rt: &impl Print) -> io::Result<()> {
+    damaged(rt, &[0x10, 0x20, 0x35])?;
+    damaged(rt, &[0x20])?;
+    damaged(rt, &[0x35, 0x10])
 }
 
 // 64 addresses, 65, and 65 of which the last is below the one before it.
-fn many() {
+fn many(rt: &impl Print) -> io::Result<()> {
     let most = [1u64; MOST];
-    damaged(&most);
+    damaged(rt, &most)?;
     let mut more = [1u64; MOST + 1];
-    damaged(&more);
+    damaged(rt, &more)?;
     more[MOST] = 0;
-    damaged(&more);
+    damaged(rt, &more)
 }
 
-fn of_size_5(addresses: &[u64]) {
-    ranges(b"ranges, size 5:", encoding(5, 5), 0, b"\0", addresses);
+fn of_size_5(rt: &impl Print, addresses: &[u64]) -> io::Result<()> {
+    ranges(rt, b"ranges, size 5:", encoding(5, 5), 0, b"\0", addresses)
 }
 
 // Lists that are not opened.
-fn unopened() {
-    of_size_5(&[1]);
-    of_size_5(&[]);
-    ranges(b"ranges, from 2 on:", encoding(5, 4), 2, b"\0", &[1, 2]);
+fn unopened(rt: &impl Print) -> io::Result<()> {
+    of_size_5(rt, &[1])?;
+    of_size_5(rt, &[])?;
+    ranges(rt, b"ranges, from 2 on:", encoding(5, 4), 2, b"\0", &[1, 2])
 }
 
 // A list of the end mark alone, and one without it.
-fn ends() {
-    plain(b"\0", &[5]);
-    plain(b"\x07\x10\0\0\0\x10\x07\x30\0\0\0\x10", &[0x50]);
+fn ends(rt: &impl Print) -> io::Result<()> {
+    plain(rt, b"\0", &[5])?;
+    plain(rt, b"\x07\x10\0\0\0\x10\x07\x30\0\0\0\x10", &[0x50])
 }
 
-fn default_first(addresses: &[u64]) {
-    located(b"\x05\x01\x50\x07\x10\0\0\0\x20\0\0\0\x01\x51\0", addresses);
-}
-
-fn default_damaged(addresses: &[u64]) {
+fn default_first(rt: &impl Print, addresses: &[u64]) -> io::Result<()> {
     located(
+        rt,
+        b"\x05\x01\x50\x07\x10\0\0\0\x20\0\0\0\x01\x51\0",
+        addresses,
+    )
+}
+
+fn default_damaged(rt: &impl Print, addresses: &[u64]) -> io::Result<()> {
+    located(
+        rt,
         b"\x05\x01\x50\x07\x10\0\0\0\x20\0\0\0\x01\x51\x09",
         addresses,
-    );
+    )
 }
 
-fn defaults() {
-    default_first(&[0, 0x10, 0x20, 0xffff_ffff_ffff_ffff]);
-    default_first(&[0x10, 0x1f]);
-    default_damaged(&[0, 0x10]);
-    default_damaged(&[0x10]);
+fn defaults(rt: &impl Print) -> io::Result<()> {
+    default_first(rt, &[0, 0x10, 0x20, 0xffff_ffff_ffff_ffff])?;
+    default_first(rt, &[0x10, 0x1f])?;
+    default_damaged(rt, &[0, 0x10])?;
+    default_damaged(rt, &[0x10])
 }
 
 // A row that the table doesn't have, between two ranges.
-fn failed() {
+fn failed(rt: &impl Print) -> io::Result<()> {
     let list = b"\x04\x10\x20\x02\0\x02\x04\x30\x40\0";
-    plain(list, &[5, 0x10, 0x35]);
-    plain(list, &[0x10, 0x1f]);
+    plain(rt, list, &[5, 0x10, 0x35])?;
+    plain(rt, list, &[0x10, 0x1f])
 }
 
 fn numbers() -> [u64; MOST] {
     let mut all = [0u64; MOST];
-    let mut i: usize = 0;
-    while i < MOST {
+    for i in 0..MOST {
         all[i] = i as u64;
-        i += 1;
     }
     all
 }
 
 // Ranges that overlap; such as hold all numbers from 0 to 3f; locations, two of them default ones.
-fn overlapping(all: &[u64]) {
+fn overlapping(rt: &impl Print, all: &[u64]) -> io::Result<()> {
     plain(
+        rt,
         b"\x04\x10\x20\x04\x08\x18\x04\x18\x30\x04\x05\x06\x04\x28\x3f\0",
         all,
-    );
+    )?;
     plain(
+        rt,
         b"\x04\x10\x20\x04\x08\x18\x04\x18\x30\x04\x05\x06\x04\0\x40\x08",
         all,
-    );
+    )?;
     located(
+        rt,
         b"\x04\x10\x20\x01\x51\x05\x01\x50\x04\x08\x18\0\x05\x01\x52\x04\x18\x30\x01\x53\0",
         all,
-    );
+    )
 }
 
 // Ranges in descending order; ranges in one another, the widest first and the narrowest first.
-fn ordered(all: &[u64]) {
-    plain(b"\x04\x30\x3f\x04\x20\x28\x04\x10\x18\x04\0\x08\0", all);
-    plain(b"\x04\x10\x30\x04\x18\x28\x04\x1c\x1e\0", all);
-    plain(b"\x04\x1c\x1e\x04\x18\x28\x04\x10\x30\0", all);
+fn ordered(rt: &impl Print, all: &[u64]) -> io::Result<()> {
+    plain(rt, b"\x04\x30\x3f\x04\x20\x28\x04\x10\x18\x04\0\x08\0", all)?;
+    plain(rt, b"\x04\x10\x30\x04\x18\x28\x04\x1c\x1e\0", all)?;
+    plain(rt, b"\x04\x1c\x1e\x04\x18\x28\x04\x10\x30\0", all)
 }
 
 // Bare pairs with a base address among them; addresses of three bytes.
-fn sizes() {
+fn sizes(rt: &impl Print) -> io::Result<()> {
     ranges(
+        rt,
         b"ranges, version 4, size 2:",
         encoding(4, 2),
         0,
         b"\x10\0\x20\0\xff\xff\0\x10\x10\0\x20\0\0\0\0\0",
         &[0x10, 0x20, 0x1010, 0x1020],
-    );
+    )?;
     ranges(
+        rt,
         b"ranges, size 3:",
         encoding(5, 3),
         0,
         b"\x06\x01\x02\x03\x04\x05\x06\0",
         &[0x30200, 0x30201, 0x60503, 0x60504],
-    );
+    )
 }
 
 // All addresses; a split list with a row.
-fn other_locations() {
+fn other_locations(rt: &impl Print) -> io::Result<()> {
     locations(
+        rt,
         b"locations, size 8:",
         encoding(5, 8),
         DwarfFileType::Main,
         b"\x05\x01\x50\x07\0\0\0\0\0\0\0\0\xff\xff\xff\xff\xff\xff\xff\xff\x01\x51\0",
         &[0, 0xffff_ffff_ffff_fffe, 0xffff_ffff_ffff_ffff],
-    );
+    )?;
     locations(
+        rt,
         b"locations, split, version 4:",
         encoding(4, 4),
         DwarfFileType::Dwo,
         b"\x05\x01\0\x50\x03\0\x08\0\0\0\x01\0\x51\0",
         &[0xf, 0x10, 0x18],
-    );
+    )
 }
 
-fn tables() {
-    by_table(b"\x03\x10\x20\0\x30\0\0\0\x10\x07", &[0x10, 0x20, 0x35]);
-    by_table(b"\x03\x10\x20\x08", &[0x10, 0x20]);
+fn tables(rt: &impl Print) -> io::Result<()> {
+    by_table(rt, b"\x03\x10\x20\0\x30\0\0\0\x10\x07", &[0x10, 0x20, 0x35])?;
+    by_table(rt, b"\x03\x10\x20\x08", &[0x10, 0x20])
 }
 
-fn main() {
-    few();
-    between();
-    many();
-    unopened();
-    ends();
-    defaults();
-    failed();
+fn main(rt: HostRuntime) -> io::Result<()> {
+    few(&rt)?;
+    between(&rt)?;
+    many(&rt)?;
+    unopened(&rt)?;
+    ends(&rt)?;
+    defaults(&rt)?;
+    failed(&rt)?;
     let all = numbers();
-    overlapping(&all);
-    ordered(&all);
-    sizes();
-    other_locations();
-    tables();
+    overlapping(&rt, &all)?;
+    ordered(&rt, &all)?;
+    sizes(&rt)?;
+    other_locations(&rt)?;
+    tables(&rt)
 }

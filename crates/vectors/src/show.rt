@@ -1,141 +1,145 @@
 // A line for each answer.
 use entries::{Expression, RawLocListEntry, RawLocationStep, RawRangeStep, RawRngListEntry};
-use libc::STDOUT_FILENO;
 use section_bytes::common::{Encoding, Format};
 use section_bytes::error::Error;
 use section_bytes::{InitialLength, Num, Place, Split};
+use std::io;
 use tables::addr::{AddrHeaderAnswer, AddressAnswer, NextEntry, NextHeader};
 use tables::lists::ListsAnswer;
 use tables::loclists::LocationOffsetAnswer;
 use tables::rnglists::RangeOffsetAnswer;
 
-pub(crate) fn say(text: &[u8]) {
-    io::write_all(STDOUT_FILENO, text);
+pub(crate) fn say(rt: &impl Print, text: &[u8]) -> io::Result<()> {
+    rt.write_all(text)
 }
 
-pub(crate) fn put(n: u64) {
-    say(b" ");
-    io::print_decimal(STDOUT_FILENO, n);
+pub(crate) fn put(rt: &impl Print, n: u64) -> io::Result<()> {
+    say(rt, b" ")?;
+    print!(rt; "{n}")
 }
 
-pub(crate) fn end_line() {
-    say(b"\n");
+pub(crate) fn end_line(rt: &impl Print) -> io::Result<()> {
+    say(rt, b"\n")
 }
 
-fn field(name: &[u8], n: u64) {
-    say(name);
-    put(n);
+fn field(rt: &impl Print, name: &[u8], n: u64) -> io::Result<()> {
+    say(rt, name)?;
+    put(rt, n)
 }
 
-pub(crate) fn refused(e: Error) {
-    field(b" refused", e.number());
+pub(crate) fn refused(rt: &impl Print, e: Error) -> io::Result<()> {
+    field(rt, b" refused", e.number())?;
     match e {
-        Error::UnknownRangeListsEntry(v) => put(v),
-        Error::UnknownLocListsEntry(v) => put(v),
-        Error::UnknownVersion(v) => put(v),
-        Error::UnsupportedAddressSize(v) => put(v),
-        Error::UnsupportedSegmentSize(v) => put(v),
-        Error::UnknownReservedLength(v) => put(v),
-        _ => {}
+        Error::UnknownRangeListsEntry(v) => put(rt, v),
+        Error::UnknownLocListsEntry(v) => put(rt, v),
+        Error::UnknownVersion(v) => put(rt, v),
+        Error::UnsupportedAddressSize(v) => put(rt, v),
+        Error::UnsupportedSegmentSize(v) => put(rt, v),
+        Error::UnknownReservedLength(v) => put(rt, v),
+        _ => Ok(()),
     }
 }
 
-fn next(c: usize) {
-    field(b" next", c as u64);
+fn next(rt: &impl Print, c: usize) -> io::Result<()> {
+    field(rt, b" next", c as u64)
 }
 
-pub(crate) fn num(label: &[u8], r: Num) {
-    say(label);
+pub(crate) fn num(rt: &impl Print, label: &[u8], r: Num) -> io::Result<()> {
+    say(rt, label)?;
     match r {
         Num::Got(v, c) => {
-            put(v);
-            next(c);
+            put(rt, v)?;
+            next(rt, c)?;
         }
-        Num::Refused(e) => refused(e),
+        Num::Refused(e) => refused(rt, e)?,
     }
-    end_line();
+    end_line(rt)
 }
 
-pub(crate) fn value(label: &[u8], n: u64) {
-    say(label);
-    put(n);
-    end_line();
+pub(crate) fn value(rt: &impl Print, label: &[u8], n: u64) -> io::Result<()> {
+    say(rt, label)?;
+    put(rt, n)?;
+    end_line(rt)
 }
 
-pub(crate) fn place(label: &[u8], r: Place) {
-    say(label);
+pub(crate) fn place(rt: &impl Print, label: &[u8], r: Place) -> io::Result<()> {
+    say(rt, label)?;
     match r {
-        Place::At(c) => put(c as u64),
-        Place::Refused(e) => refused(e),
+        Place::At(c) => put(rt, c as u64)?,
+        Place::Refused(e) => refused(rt, e)?,
     }
-    end_line();
+    end_line(rt)
 }
 
-pub(crate) fn split(label: &[u8], r: Split) {
-    say(label);
+pub(crate) fn split(rt: &impl Print, label: &[u8], r: Split) -> io::Result<()> {
+    say(rt, label)?;
     match r {
         Split::Got(x, c) => {
-            put(x.offset as u64);
-            put(x.len as u64);
-            next(c);
+            put(rt, x.offset as u64)?;
+            put(rt, x.len as u64)?;
+            next(rt, c)?;
         }
-        Split::Refused(e) => refused(e),
+        Split::Refused(e) => refused(rt, e)?,
     }
-    end_line();
+    end_line(rt)
 }
 
-pub(crate) fn initial_length(label: &[u8], r: InitialLength) {
-    say(label);
+pub(crate) fn initial_length(rt: &impl Print, label: &[u8], r: InitialLength) -> io::Result<()> {
+    say(rt, label)?;
     match r {
         InitialLength::Got(u, c) => {
-            put(u.length);
-            next(c);
+            put(rt, u.length)?;
+            next(rt, c)?;
         }
-        InitialLength::Refused(e) => refused(e),
+        InitialLength::Refused(e) => refused(rt, e)?,
     }
-    end_line();
+    end_line(rt)
 }
 
-pub(crate) fn lists(label: &[u8], r: ListsAnswer) {
-    say(label);
+pub(crate) fn lists(rt: &impl Print, label: &[u8], r: ListsAnswer) -> io::Result<()> {
+    say(rt, label)?;
     match r {
         ListsAnswer::Header(h, rest) => {
             let encoding = h.encoding;
-            field(b" size", encoding.address_size as u64);
-            field(b" count", h.offset_entry_count);
-            field(b" rest", rest.offset as u64);
-            put(rest.len as u64);
+            field(rt, b" size", encoding.address_size as u64)?;
+            field(rt, b" count", h.offset_entry_count)?;
+            field(rt, b" rest", rest.offset as u64)?;
+            put(rt, rest.len as u64)?;
         }
-        ListsAnswer::Refused(e) => refused(e),
+        ListsAnswer::Refused(e) => refused(rt, e)?,
     }
-    end_line();
+    end_line(rt)
 }
 
-pub(crate) fn address(label: &[u8], r: AddressAnswer) {
-    say(label);
+pub(crate) fn address(rt: &impl Print, label: &[u8], r: AddressAnswer) -> io::Result<()> {
+    say(rt, label)?;
     match r {
-        AddressAnswer::Address(a) => put(a),
-        AddressAnswer::Refused(e) => refused(e),
+        AddressAnswer::Address(a) => put(rt, a)?,
+        AddressAnswer::Refused(e) => refused(rt, e)?,
     }
-    end_line();
+    end_line(rt)
 }
 
-pub(crate) fn range_offset(label: &[u8], r: RangeOffsetAnswer) {
-    say(label);
+pub(crate) fn range_offset(rt: &impl Print, label: &[u8], r: RangeOffsetAnswer) -> io::Result<()> {
+    say(rt, label)?;
     match r {
-        RangeOffsetAnswer::Offset(x) => put(x.0),
-        RangeOffsetAnswer::Refused(e) => refused(e),
+        RangeOffsetAnswer::Offset(x) => put(rt, x.0)?,
+        RangeOffsetAnswer::Refused(e) => refused(rt, e)?,
     }
-    end_line();
+    end_line(rt)
 }
 
-pub(crate) fn location_offset(label: &[u8], r: LocationOffsetAnswer) {
-    say(label);
+pub(crate) fn location_offset(
+    rt: &impl Print,
+    label: &[u8],
+    r: LocationOffsetAnswer,
+) -> io::Result<()> {
+    say(rt, label)?;
     match r {
-        LocationOffsetAnswer::Offset(x) => put(x.0),
-        LocationOffsetAnswer::Refused(e) => refused(e),
+        LocationOffsetAnswer::Offset(x) => put(rt, x.0)?,
+        LocationOffsetAnswer::Refused(e) => refused(rt, e)?,
     }
-    end_line();
+    end_line(rt)
 }
 
 fn bits(encoding: Encoding) -> u64 {
@@ -146,108 +150,106 @@ fn bits(encoding: Encoding) -> u64 {
     }
 }
 
-pub(crate) fn table_header(label: &[u8], r: AddrHeaderAnswer) {
-    say(label);
+pub(crate) fn table_header(rt: &impl Print, label: &[u8], r: AddrHeaderAnswer) -> io::Result<()> {
+    say(rt, label)?;
     match r {
         AddrHeaderAnswer::Header(h, c) => {
             let offset = h.offset;
             let encoding = h.encoding;
             let entries = h.entries;
-            field(b" offset", offset.0);
-            field(b" length", h.length);
-            field(b" format", bits(encoding));
-            field(b" size", encoding.address_size as u64);
-            field(b" entries", entries.offset as u64);
-            put(entries.len as u64);
-            next(c);
+            field(rt, b" offset", offset.0)?;
+            field(rt, b" length", h.length)?;
+            field(rt, b" format", bits(encoding))?;
+            field(rt, b" size", encoding.address_size as u64)?;
+            field(rt, b" entries", entries.offset as u64)?;
+            put(rt, entries.len as u64)?;
+            next(rt, c)?;
         }
-        AddrHeaderAnswer::Refused(e) => refused(e),
+        AddrHeaderAnswer::Refused(e) => refused(rt, e)?,
     }
-    end_line();
+    end_line(rt)
 }
 
-pub(crate) fn next_header(label: &[u8], r: NextHeader) {
-    say(label);
+pub(crate) fn next_header(rt: &impl Print, label: &[u8], r: NextHeader) -> io::Result<()> {
+    say(rt, label)?;
     match r {
-        NextHeader::Header(_, w) => next(w.at),
+        NextHeader::Header(_, w) => next(rt, w.at)?,
         NextHeader::End(w) => {
-            field(b" end", w.at as u64);
+            field(rt, b" end", w.at as u64)?;
         }
-        NextHeader::Refused(e, _) => refused(e),
+        NextHeader::Refused(e, _) => refused(rt, e)?,
     }
-    end_line();
+    end_line(rt)
 }
 
-pub(crate) fn next_entry(label: &[u8], r: NextEntry) {
-    say(label);
+pub(crate) fn next_entry(rt: &impl Print, label: &[u8], r: NextEntry) -> io::Result<()> {
+    say(rt, label)?;
     match r {
-        NextEntry::Address(a, _) => put(a),
+        NextEntry::Address(a, _) => put(rt, a)?,
         NextEntry::End(w) => {
             let entries = w.entries;
-            field(b" end", entries.offset as u64);
-            put(entries.len as u64);
+            field(rt, b" end", entries.offset as u64)?;
+            put(rt, entries.len as u64)?;
         }
-        NextEntry::Refused(e, _) => refused(e),
+        NextEntry::Refused(e, _) => refused(rt, e)?,
     }
-    end_line();
+    end_line(rt)
 }
 
-fn range_entry(x: RawRngListEntry) {
+fn range_entry(rt: &impl Print, x: RawRngListEntry) -> io::Result<()> {
     match x {
-        RawRngListEntry::BaseAddress(a) => {
-            field(b" base", a);
-        }
+        RawRngListEntry::BaseAddress(a) => { field(rt, b" base", a) }
         RawRngListEntry::AddressOrOffsetPair(b, e) => {
-            put(b);
-            put(e);
+            put(rt, b)?;
+            put(rt, e)
         }
         RawRngListEntry::StartEnd(b, e) => {
-            field(b" start", b);
-            field(b" end", e);
+            field(rt, b" start", b)?;
+            field(rt, b" end", e)
         }
-        _ => say(b" of another kind"),
+        _ => say(rt, b" of another kind"),
     }
 }
 
-pub(crate) fn range(label: &[u8], r: RawRangeStep) {
-    say(label);
+pub(crate) fn range(rt: &impl Print, label: &[u8], r: RawRangeStep) -> io::Result<()> {
+    say(rt, label)?;
     match r {
         RawRangeStep::Entry(x, _, c) => {
-            range_entry(x);
-            next(c);
+            range_entry(rt, x)?;
+            next(rt, c)?;
         }
-        RawRangeStep::End => say(b" end"),
-        RawRangeStep::Refused(e) => refused(e),
+        RawRangeStep::End => say(rt, b" end")?,
+        RawRangeStep::Refused(e) => refused(rt, e)?,
     }
-    end_line();
+    end_line(rt)
 }
 
-fn expression(x: Expression) {
-    field(b" expression", x.offset as u64);
-    put(x.len as u64);
+fn expression(rt: &impl Print, x: Expression) -> io::Result<()> {
+    field(rt, b" expression", x.offset as u64)?;
+    put(rt, x.len as u64)
 }
 
-fn location_entry(x: RawLocListEntry) {
+fn location_entry(rt: &impl Print, x: RawLocListEntry) -> io::Result<()> {
     match x {
-        RawLocListEntry::DefaultLocation(d) => expression(d),
+        RawLocListEntry::DefaultLocation(d) => expression(rt, d),
         RawLocListEntry::StartxLength(i, n, d) => {
-            field(b" index", i.0);
-            field(b" length", n);
-            expression(d);
+            field(rt, b" index", i.0)?;
+            field(rt, b" length", n)?;
+            expression(rt, d)
         }
-        _ => say(b" of another kind"),
+        _ => say(rt, b" of another kind"),
     }
 }
 
-pub(crate) fn location(label: &[u8], r: RawLocationStep) {
-    say(label);
+pub(crate) fn location(rt: &impl Print, label: &[u8], r: RawLocationStep) -> io::Result<()> {
+    say(rt, label)?;
     match r {
         RawLocationStep::Entry(x, _, c) => {
-            location_entry(x);
-            next(c);
+            location_entry(rt, x)?;
+            next(rt, c)?;
         }
-        RawLocationStep::End => say(b" end"),
-        RawLocationStep::Refused(e) => refused(e),
+        RawLocationStep::End => say(rt, b" end")?,
+        RawLocationStep::Refused(e) => refused(rt, e)?,
     }
-    end_line();
+    end_line(rt)
 }

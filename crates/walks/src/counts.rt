@@ -1,43 +1,43 @@
 // How many raw entries walks have read: behind each answer, in parentheses, the walk's place and its count.
 use super::{encoding, say};
-use libc::STDOUT_FILENO;
 use lists::rnglists::{RangeAnswer, RangeConverted, RawRangeAnswer};
 use lists::{Opened, Range, Walk};
 use section_bytes::common::{DebugAddrBase, RangeListsOffset};
 use section_bytes::endianity::RunTimeEndian;
 use section_bytes::error::Error;
+use std::io;
 
-fn put(x: u64) {
-    io::print_hex(STDOUT_FILENO, x, 1);
+fn put(rt: &impl Print, x: u64) -> io::Result<()> {
+    print!(rt; "{x:x}")
 }
 
-fn two(label: &[u8], a: u64, b: u64) {
-    say(label);
-    put(a);
-    say(b" ");
-    put(b);
+fn two(rt: &impl Print, label: &[u8], a: u64, b: u64) -> io::Result<()> {
+    say(rt, label)?;
+    put(rt, a)?;
+    say(rt, b" ")?;
+    put(rt, b)
 }
 
-fn range(x: Range) {
-    two(b" ", x.begin, x.end);
+fn range(rt: &impl Print, x: Range) -> io::Result<()> {
+    two(rt, b" ", x.begin, x.end)
 }
 
 // The refusal's number and its value, 0 where it has none.
-fn refused(e: Error) {
-    two(b" refused ", e.number(), e.value());
+fn refused(rt: &impl Print, e: Error) -> io::Result<()> {
+    two(rt, b" refused ", e.number(), e.value())
 }
 
-fn stands(walk: Walk) -> Walk {
-    say(b" (");
-    put(walk.at as u64);
-    say(b", ");
-    put(walk.entries);
-    say(b")");
-    walk
+fn stands(rt: &impl Print, walk: Walk) -> io::Result<Walk> {
+    say(rt, b" (")?;
+    put(rt, walk.at as u64)?;
+    say(rt, b", ")?;
+    put(rt, walk.entries)?;
+    say(rt, b")")?;
+    Ok(walk)
 }
 
 // Two addresses, 10 and 20, behind their header.
-fn step(list: &[u8], address_size: u8, walk: Walk) -> Walk {
+fn step(rt: &impl Print, list: &[u8], address_size: u8, walk: Walk) -> io::Result<Walk> {
     let table = b"\x0c\0\0\0\x05\0\x04\0\x10\0\0\0\x20\0\0\0";
     match lists::rnglists::next(
         list,
@@ -48,39 +48,48 @@ fn step(list: &[u8], address_size: u8, walk: Walk) -> Walk {
         RunTimeEndian::Little,
     ) {
         RangeAnswer::Range(x, after) => {
-            range(x);
-            stands(after)
+            range(rt, x)?;
+            stands(rt, after)
         }
         RangeAnswer::End(after) => {
-            say(b" end");
-            stands(after)
+            say(rt, b" end")?;
+            stands(rt, after)
         }
         RangeAnswer::Refused(e, after) => {
-            refused(e);
-            stands(after)
+            refused(rt, e)?;
+            stands(rt, after)
         }
     }
 }
 
 // Three calls of next.
-fn three(list: &[u8], address_size: u8, start: Walk) {
-    let first = step(list, address_size, start);
-    let second = step(list, address_size, first);
-    step(list, address_size, second);
+fn three(rt: &impl Print, list: &[u8], address_size: u8, start: Walk) -> io::Result<()> {
+    let first = step(rt, list, address_size, start)?;
+    let second = step(rt, list, address_size, first)?;
+    step(rt, list, address_size, second)?;
+    Ok(())
 }
 
-fn opened(label: &[u8], list: &[u8]) {
-    say(label);
+fn opened(rt: &impl Print, label: &[u8], list: &[u8]) -> io::Result<()> {
+    say(rt, label)?;
     match lists::rnglists::ranges(list, RangeListsOffset(0), encoding(5, 4), 0) {
-        Opened::List(start) => three(list, 4, start),
-        Opened::Refused(e) => refused(e),
+        Opened::List(start) => three(rt, list, 4, start)?,
+        Opened::Refused(e) => refused(rt, e)?,
     }
-    say(b"\n");
+    say(rt, b"\n")
 }
 
-fn handed(label: &[u8], list: &[u8], address_size: u8, at: usize, entries: u64) {
-    say(label);
+fn handed(
+    rt: &impl Print,
+    label: &[u8],
+    list: &[u8],
+    address_size: u8,
+    at: usize,
+    entries: u64,
+) -> io::Result<()> {
+    say(rt, label)?;
     three(
+        rt,
         list,
         address_size,
         Walk {
@@ -88,16 +97,16 @@ fn handed(label: &[u8], list: &[u8], address_size: u8, at: usize, entries: u64) 
             base_address: 0,
             entries,
         },
-    );
-    say(b"\n");
+    )?;
+    say(rt, b"\n")
 }
 
 // A call of next_raw, and of convert_raw on what it gave.
-fn raw_step(list: &[u8], walk: Walk) -> Walk {
+fn raw_step(rt: &impl Print, list: &[u8], walk: Walk) -> io::Result<Walk> {
     match lists::rnglists::next_raw(list, walk, encoding(5, 4), RunTimeEndian::Little) {
         RawRangeAnswer::Entry(raw, _, after) => {
-            say(b" entry");
-            stands(after);
+            say(rt, b" entry")?;
+            stands(rt, after)?;
             match lists::rnglists::convert_raw(
                 raw,
                 b"",
@@ -107,56 +116,56 @@ fn raw_step(list: &[u8], walk: Walk) -> Walk {
                 RunTimeEndian::Little,
             ) {
                 RangeConverted::Range(x, then) => {
-                    range(x);
-                    stands(then)
+                    range(rt, x)?;
+                    stands(rt, then)
                 }
                 RangeConverted::Nothing(then) => {
-                    say(b" nothing");
-                    stands(then)
+                    say(rt, b" nothing")?;
+                    stands(rt, then)
                 }
                 RangeConverted::Refused(e, then) => {
-                    refused(e);
-                    stands(then)
+                    refused(rt, e)?;
+                    stands(rt, then)
                 }
             }
         }
         RawRangeAnswer::End(after) => {
-            say(b" end");
-            stands(after)
+            say(rt, b" end")?;
+            stands(rt, after)
         }
         RawRangeAnswer::Refused(e, after) => {
-            refused(e);
-            stands(after)
+            refused(rt, e)?;
+            stands(rt, after)
         }
     }
 }
 
-fn raw(label: &[u8], list: &[u8]) {
-    say(label);
+fn raw(rt: &impl Print, label: &[u8], list: &[u8]) -> io::Result<()> {
+    say(rt, label)?;
     match lists::rnglists::raw_ranges(list, RangeListsOffset(0), encoding(5, 4)) {
         Opened::List(start) => {
-            let first = raw_step(list, start);
-            let second = raw_step(list, first);
-            raw_step(list, second);
+            let first = raw_step(rt, list, start)?;
+            let second = raw_step(rt, list, first)?;
+            raw_step(rt, list, second)?;
         }
-        Opened::Refused(e) => refused(e),
+        Opened::Refused(e) => refused(rt, e)?,
     }
-    say(b"\n");
+    say(rt, b"\n")
 }
 
-pub(crate) fn counts() {
+pub(crate) fn counts(rt: &impl Print) -> io::Result<()> {
     let based = b"\x05\0\x10\0\0\x04\x01\x02\x04\x03\x03\x04\x05\x06\0\xff";
     let short = b"\x07\x10\0\0\0\x01\0";
-    opened(b"end mark:", b"\0");
-    opened(b"range and end mark:", b"\x06\x10\0\0\0\x20\0\0\0\0");
-    opened(b"no end mark:", b"\x06\x10\0\0\0\x20\0\0\0");
-    opened(b"base, pair, empty pair, pair:", based);
-    opened(b"failed lookup:", b"\x02\0\x02\x03\0\x08\0");
-    opened(b"range and unknown kind:", b"\x07\x10\0\0\0\x01\x08");
-    opened(b"unknown kind:", b"\x08");
-    handed(b"largest count:", short, 4, 0, 0xffff_ffff_ffff_ffff);
-    handed(b"one less:", short, 4, 0, 0xffff_ffff_ffff_fffe);
-    handed(b"size 5, count 7:", b"\0", 5, 0, 7);
-    handed(b"place 63, count 7:", short, 4, 99, 7);
-    raw(b"raw and converted:", based);
+    opened(rt, b"end mark:", b"\0")?;
+    opened(rt, b"range and end mark:", b"\x06\x10\0\0\0\x20\0\0\0\0")?;
+    opened(rt, b"no end mark:", b"\x06\x10\0\0\0\x20\0\0\0")?;
+    opened(rt, b"base, pair, empty pair, pair:", based)?;
+    opened(rt, b"failed lookup:", b"\x02\0\x02\x03\0\x08\0")?;
+    opened(rt, b"range and unknown kind:", b"\x07\x10\0\0\0\x01\x08")?;
+    opened(rt, b"unknown kind:", b"\x08")?;
+    handed(rt, b"largest count:", short, 4, 0, 0xffff_ffff_ffff_ffff)?;
+    handed(rt, b"one less:", short, 4, 0, 0xffff_ffff_ffff_fffe)?;
+    handed(rt, b"size 5, count 7:", b"\0", 5, 0, 7)?;
+    handed(rt, b"place 63, count 7:", short, 4, 99, 7)?;
+    raw(rt, b"raw and converted:", based)
 }

@@ -1,9 +1,10 @@
 // Lists of three-byte addresses: walks, lookups and canonical lists, as docs/SCOPE.md has them for every address size. The file stdout
 // has the answers by that page, in hexadecimal: ranges with the walk's place after them. Then walks and their counts (counts.rt).
+#![tactic(auto)]
+
 mod counts;
 
 use coverage::Wrote;
-use libc::STDOUT_FILENO;
 use lists::rnglists::RangeAnswer;
 use lists::{Opened, Walk};
 use lookups::RangeFound;
@@ -11,19 +12,20 @@ use section_bytes::Num;
 use section_bytes::common::{DebugAddrBase, Encoding, Format, RangeListsOffset};
 use section_bytes::endianity::RunTimeEndian;
 use section_bytes::error::Error;
+use std::io;
 
-fn say(text: &[u8]) {
-    io::write_all(STDOUT_FILENO, text);
+fn say(rt: &impl Print, text: &[u8]) -> io::Result<()> {
+    rt.write_all(text)
 }
 
-fn put(x: u64) {
-    say(b" ");
-    io::print_hex(STDOUT_FILENO, x, 6);
+fn put(rt: &impl Print, x: u64) -> io::Result<()> {
+    say(rt, b" ")?;
+    print!(rt; "{x:06x}")
 }
 
-fn refused(e: Error) {
-    say(b" refused");
-    put(e.number());
+fn refused(rt: &impl Print, e: Error) -> io::Result<()> {
+    say(rt, b" refused")?;
+    put(rt, e.number())
 }
 
 fn encoding(version: u16, address_size: u8) -> Encoding {
@@ -35,7 +37,13 @@ fn encoding(version: u16, address_size: u8) -> Encoding {
 }
 
 // Two addresses, 10 and 20, behind their header.
-fn step(list: &[u8], version: u16, walk: Walk, endian: RunTimeEndian) -> Walk {
+fn step(
+    rt: &impl Print,
+    list: &[u8],
+    version: u16,
+    walk: Walk,
+    endian: RunTimeEndian,
+) -> io::Result<Walk> {
     let table = b"\x0a\0\0\0\x05\0\x03\0\x10\0\0\x20\0\0";
     match lists::rnglists::next(
         list,
@@ -46,54 +54,67 @@ fn step(list: &[u8], version: u16, walk: Walk, endian: RunTimeEndian) -> Walk {
         endian,
     ) {
         RangeAnswer::Range(x, after) => {
-            put(x.begin);
-            put(x.end);
-            say(b" at");
-            put(after.at as u64);
-            say(b",");
-            after
+            put(rt, x.begin)?;
+            put(rt, x.end)?;
+            say(rt, b" at")?;
+            put(rt, after.at as u64)?;
+            say(rt, b",")?;
+            Ok(after)
         }
         RangeAnswer::End(after) => {
-            say(b" end at");
-            put(after.at as u64);
-            after
+            say(rt, b" end at")?;
+            put(rt, after.at as u64)?;
+            Ok(after)
         }
         RangeAnswer::Refused(e, after) => {
-            refused(e);
-            say(b",");
-            after
+            refused(rt, e)?;
+            say(rt, b",")?;
+            Ok(after)
         }
     }
 }
 
 // Two calls of next.
-fn walk(label: &[u8], list: &[u8], version: u16, base: u64, endian: RunTimeEndian) {
-    say(label);
+fn walk(
+    rt: &impl Print,
+    label: &[u8],
+    list: &[u8],
+    version: u16,
+    base: u64,
+    endian: RunTimeEndian,
+) -> io::Result<()> {
+    say(rt, label)?;
     match lists::rnglists::ranges(list, RangeListsOffset(0), encoding(version, 3), base) {
         Opened::List(start) => {
-            let after = step(list, version, start, endian);
-            step(list, version, after, endian);
+            let after = step(rt, list, version, start, endian)?;
+            step(rt, list, version, after, endian)?;
         }
-        Opened::Refused(e) => refused(e),
+        Opened::Refused(e) => refused(rt, e)?,
     }
-    say(b"\n");
+    say(rt, b"\n")
 }
 
-fn little(label: &[u8], list: &[u8], base: u64) {
-    walk(label, list, 5, base, RunTimeEndian::Little);
+fn little(rt: &impl Print, label: &[u8], list: &[u8], base: u64) -> io::Result<()> {
+    walk(rt, label, list, 5, base, RunTimeEndian::Little)
 }
 
-fn open(label: &[u8], list: &[u8], offset: u64, address_size: u8) {
-    say(label);
+fn open(
+    rt: &impl Print,
+    label: &[u8],
+    list: &[u8],
+    offset: u64,
+    address_size: u8,
+) -> io::Result<()> {
+    say(rt, label)?;
     match lists::rnglists::ranges(list, RangeListsOffset(offset), encoding(5, address_size), 0) {
-        Opened::List(_) => say(b" opened"),
-        Opened::Refused(e) => refused(e),
+        Opened::List(_) => say(rt, b" opened")?,
+        Opened::Refused(e) => refused(rt, e)?,
     }
-    say(b"\n");
+    say(rt, b"\n")
 }
 
-fn look_up(label: &[u8], list: &[u8], address: u64) {
-    say(label);
+fn look_up(rt: &impl Print, label: &[u8], list: &[u8], address: u64) -> io::Result<()> {
+    say(rt, label)?;
     match lookups::lookup_range(
         list,
         list,
@@ -105,26 +126,26 @@ fn look_up(label: &[u8], list: &[u8], address: u64) {
         address,
     ) {
         RangeFound::Found(x) => {
-            put(x.begin);
-            put(x.end);
+            put(rt, x.begin)?;
+            put(rt, x.end)?;
         }
-        RangeFound::NotThere => say(b" not there"),
-        RangeFound::Refused(e) => refused(e),
+        RangeFound::NotThere => say(rt, b" not there")?,
+        RangeFound::Refused(e) => refused(rt, e)?,
     }
-    say(b"\n");
+    say(rt, b"\n")
 }
 
-fn number(r: Num) {
+fn number(rt: &impl Print, r: Num) -> io::Result<()> {
     match r {
-        Num::Got(x, _) => put(x),
-        Num::Refused(e) => refused(e),
+        Num::Got(x, _) => put(rt, x),
+        Num::Refused(e) => refused(rt, e),
     }
 }
 
 // How many bytes a canonical list of one range has, and what they are: its kind, begin, length and end mark.
-fn canonical(label: &[u8], list: &[u8], address_size: u8) {
+fn canonical(rt: &impl Print, label: &[u8], list: &[u8], address_size: u8) -> io::Result<()> {
     let mut out = [0xffu8; 11];
-    say(label);
+    say(rt, label)?;
     match canonical::of_list::canonical_ranges(
         list,
         list,
@@ -136,61 +157,74 @@ fn canonical(label: &[u8], list: &[u8], address_size: u8) {
         &mut out,
     ) {
         Wrote::Bytes(n) => {
-            put(n as u64);
-            say(b" bytes:");
-            number(section_bytes::reader::read_u8(&out, 0));
-            number(section_bytes::reader::read_u64(&out, 1, RunTimeEndian::Little));
-            number(section_bytes::leb128::unsigned(&out, 9));
-            number(section_bytes::reader::read_u8(&out, 10));
+            put(rt, n as u64)?;
+            say(rt, b" bytes:")?;
+            number(rt, section_bytes::reader::read_u8(&out, 0))?;
+            number(
+                rt,
+                section_bytes::reader::read_u64(&out, 1, RunTimeEndian::Little),
+            )?;
+            number(rt, section_bytes::leb128::unsigned(&out, 9))?;
+            number(rt, section_bytes::reader::read_u8(&out, 10))?;
         }
-        Wrote::Refused(e) => refused(e),
+        Wrote::Refused(e) => refused(rt, e)?,
     }
-    say(b"\n");
+    say(rt, b"\n")
 }
 
-fn walks() {
-    little(b"start and end:", b"\x06\x10\0\0\x20\0\0\0", 0);
-    walk(b"big:", b"\x06\0\0\x10\0\0\x20\0", 5, 0, RunTimeEndian::Big);
-    little(b"each byte:", b"\x06\x01\x02\x03\x04\x05\x06\0", 0);
+fn walks(rt: &impl Print) -> io::Result<()> {
+    little(rt, b"start and end:", b"\x06\x10\0\0\x20\0\0\0", 0)?;
     walk(
+        rt,
+        b"big:",
+        b"\x06\0\0\x10\0\0\x20\0",
+        5,
+        0,
+        RunTimeEndian::Big,
+    )?;
+    little(rt, b"each byte:", b"\x06\x01\x02\x03\x04\x05\x06\0", 0)?;
+    walk(
+        rt,
         b"each byte, big:",
         b"\x06\x01\x02\x03\x04\x05\x06\0",
         5,
         0,
         RunTimeEndian::Big,
-    );
-    little(b"base below the bound:", b"\x04\0\x01\0", 0xfffffd);
-    little(b"base at the bound:", b"\x04\0\x01\0", 0xfffffe);
-    little(b"sum of 24 bits:", b"\x04\x80\x02\x90\x02\0", 0xffff00);
-    little(b"to the last address:", b"\x07\xf0\xff\xff\x0f\0", 0);
-    little(b"past it:", b"\x07\xf0\xff\xff\x10\0", 0);
+    )?;
+    little(rt, b"base below the bound:", b"\x04\0\x01\0", 0xfffffd)?;
+    little(rt, b"base at the bound:", b"\x04\0\x01\0", 0xfffffe)?;
+    little(rt, b"sum of 24 bits:", b"\x04\x80\x02\x90\x02\0", 0xffff00)?;
+    little(rt, b"to the last address:", b"\x07\xf0\xff\xff\x0f\0", 0)?;
+    little(rt, b"past it:", b"\x07\xf0\xff\xff\x10\0", 0)?;
     walk(
+        rt,
         b"bare pairs:",
         b"\xff\xff\xff\0\x20\0\x01\0\0\x03\0\0\0\0\0\0\0\0",
         4,
         0,
         RunTimeEndian::Little,
-    );
-    little(b"cut:", b"\x06\x10\0", 0);
-    little(b"by index:", b"\x02\0\x01\0", 0);
-    little(b"index past the table:", b"\x02\0\x02\0", 0);
+    )?;
+    little(rt, b"cut:", b"\x06\x10\0", 0)?;
+    little(rt, b"by index:", b"\x02\0\x01\0", 0)?;
+    little(rt, b"index past the table:", b"\x02\0\x02\0", 0)
 }
 
-fn calls() {
-    open(b"offset past the section:", b"", 1, 3);
-    open(b"another size:", b"", 1, 5);
-    look_up(b"look up 1f:", b"\x06\x10\0\0\x20\0\0\0", 0x1f);
-    look_up(b"look up 20:", b"\x06\x10\0\0\x20\0\0\0", 0x20);
+fn calls(rt: &impl Print) -> io::Result<()> {
+    open(rt, b"offset past the section:", b"", 1, 3)?;
+    open(rt, b"another size:", b"", 1, 5)?;
+    look_up(rt, b"look up 1f:", b"\x06\x10\0\0\x20\0\0\0", 0x1f)?;
+    look_up(rt, b"look up 20:", b"\x06\x10\0\0\x20\0\0\0", 0x20)?;
     canonical(
+        rt,
         b"canonical, size 3:",
         b"\x06\x20\0\0\x30\0\0\x06\x10\0\0\x20\0\0\0",
         3,
-    );
-    canonical(b"canonical, size 4:", b"\x06\x10\0\0\0\x30\0\0\0\0", 4);
+    )?;
+    canonical(rt, b"canonical, size 4:", b"\x06\x10\0\0\0\x30\0\0\0\0", 4)
 }
 
-fn main() {
-    walks();
-    calls();
-    counts::counts();
+fn main(rt: HostRuntime) -> io::Result<()> {
+    walks(&rt)?;
+    calls(&rt)?;
+    counts::counts(&rt)
 }
