@@ -1,5 +1,5 @@
 // An answer in words, as the exported calls have it; and the answers of addresses that are still waiting when the reading ends.
-ghost use Rattle.std.specs.Prelude.{◌≡◌, ◌≤◌, ◌<◌, set};
+ghost use Rattle.std.specs.Prelude.{◌≡◌, ◌≤◌, ◌<◌, replicate, set};
 ghost use Rattle.entries.specs.Listed.{no_expression};
 ghost use Rattle.section_bytes.specs.Read.{pick};
 ghost use Rattle.ffi_words.specs.Coverages.{count_written};
@@ -83,6 +83,15 @@ pub(crate) fn fill(
             i += 1;
         }
     }
+}
+
+// The same where every place waits. A function of its own, so that its array shares the stack with those of the reading.
+pub(crate) fn fill_all(addresses: &Addresses, n: usize, rows: &mut Rows, last: LocationFound)
+    requires { n ≤ 64 }
+    ensures { Filled (λ a. location_row (given_to a (told_location_found last))) addresses.now n (replicate 64 0) rows.old rows.new }
+{
+    let next = [0usize; MOST];
+    fill(addresses, n, &next, rows, last);
 }
 
 // How many entries were read, for C.

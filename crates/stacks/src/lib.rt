@@ -173,8 +173,7 @@ fn lookup_in(
         let all = padded.addresses;
         return match lists::rnglists::ranges(section, offset, encoding, base_address) {
             Opened::Refused(e) => {
-                let next = [0usize; MOST];
-                answers::fill(&all, n, &next, rows, LocationFound::Refused(e));
+                answers::fill_all(&all, n, rows, LocationFound::Refused(e));
                 Reading::Entries(0)
             }
             Opened::List(start) => {

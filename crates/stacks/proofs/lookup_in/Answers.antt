@@ -21,7 +21,7 @@ found_from-read-requires c =
 
 pub returns-in-Refused : goal.returns-in-Refused
 returns-in-Refused c =
-    let a = c.args in let few = c.if-n-gt-MOST.false in let up = sym c.if-ascends.true ∙ c.ascends.ensures in let small : (i : ℕ) → at a.addresses.now i ≤ 2 ^ 64 - 1 = λ i. let z = c.type_inv.addresses i in omega arith in not_opened a.locations (coding_of a.split a.by_table a.kinds.now) a.encoding a.endian a.section.now a.debug_addr.now a.debug_addr_base a.offset.0 a.base_address a.addresses.now a.rows.now (sym c.ranges-then-ascends.ensures ∙ ap told_opened c.in-Refused.is) (stands a.addresses.now _ c.padded-padded.ensures few up small) (omega (arith, c.if-n-eq0.false)) up c.fill.ensures
+    let a = c.args in let few = c.if-n-gt-MOST.false in let up = sym c.if-ascends.true ∙ c.ascends.ensures in let small : (i : ℕ) → at a.addresses.now i ≤ 2 ^ 64 - 1 = λ i. let z = c.type_inv.addresses i in omega arith in not_opened a.locations (coding_of a.split a.by_table a.kinds.now) a.encoding a.endian a.section.now a.debug_addr.now a.debug_addr_base a.offset.0 a.base_address a.addresses.now a.rows.now (sym c.ranges-then-ascends.ensures ∙ ap told_opened c.in-Refused.is) (stands a.addresses.now _ c.padded-padded.ensures few up small) (omega (arith, c.if-n-eq0.false)) up c.fill_all.ensures
 
 pub returns-in-List : goal.returns-in-List
 returns-in-List c =
