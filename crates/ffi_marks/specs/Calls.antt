@@ -19,12 +19,12 @@ use Rattle.ffi_marks.specs.Marks.{Held, held, held_out}
 
 -- by section, address table, its base, encoding, table of kind numbers and entry
 pub data Call : Type 0 where
-  range_next_lem : List ℕ → List ℕ → ℕ → YzEncoding → Call
+  range_next_plain : List ℕ → List ℕ → ℕ → YzEncoding → Call
   range_next_raw : List ℕ → YzEncoding → Call
   range_next_by : List ℕ → List ℕ → ℕ → YzEncoding → List ℕ → Call
   range_next_raw_by : List ℕ → YzEncoding → List ℕ → Call
   range_convert_raw : List ℕ → ℕ → YzEncoding → YzRangeEntry → Call
-  location_next_lem : List ℕ → List ℕ → ℕ → YzEncoding → Call
+  location_next_plain : List ℕ → List ℕ → ℕ → YzEncoding → Call
   location_next_raw : List ℕ → YzEncoding → Call
   location_convert_raw : List ℕ → ℕ → YzEncoding → YzLocationEntry → Call
 
@@ -36,7 +36,7 @@ pub data Answer : Type 0 where
 
 -- to the walk in its words
 abbrev pub answered : Call → List ℕ → Answer
-answered (range_next_lem s table tableBase e) ws =
+answered (range_next_plain s table tableBase e) ws =
     range (range_next ws (next_range (encoding_of e) (endian_in e) s table (record { 0 = tableBase }) (walk_in ws)))
 answered (range_next_raw s e) ws = raw_range (raw_range_next ws (noted_range (encoding_of e) (endian_in e) s (walk_in ws)))
 answered (range_next_by s table tableBase e kinds) ws =
@@ -44,7 +44,7 @@ answered (range_next_by s table tableBase e kinds) ws =
 answered (range_next_raw_by s e kinds) ws = raw_range (raw_range_next ws (noted_range_by kinds (encoding_of e) (endian_in e) s (walk_in ws)))
 answered (range_convert_raw table tableBase e x) ws =
     range (range_outcome ws (convert_range (encoding_of e) (endian_in e) table (record { 0 = tableBase }) (walk_in ws) x))
-answered (location_next_lem s table tableBase e) ws =
+answered (location_next_plain s table tableBase e) ws =
     location (location_next ws (next_location (split_in ws) (encoding_of e) (endian_in e) s table (record { 0 = tableBase }) (walk_in ws)))
 answered (location_next_raw s e) ws =
     raw_location (raw_location_next ws (noted_location (split_in ws) (encoding_of e) (endian_in e) s (walk_in ws)))
