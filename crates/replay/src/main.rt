@@ -11,12 +11,8 @@ mod ranges;
 mod show;
 mod walks;
 
-ghost use Rattle.std.specs.Prelude.{◌≤◌, ◌<◌, length, take, IfOk};
-ghost use Rattle.std.specs.Io.KnownBytes.{Consumes, IsAtEnd};
-
 use lines::{Call, Parsed, ROOM, Took};
 use std::io;
-use std::io::Read;
 
 // One byte more than the longest input has.
 const INPUT: usize = 500001;
@@ -103,28 +99,9 @@ fn replay(rt: &impl Print, text: &[u8]) -> io::Result<()> {
     Ok(())
 }
 
-// Reads until the room is full or the input ends, and answers how many bytes there are. Of an input whose bytes are known they
-// are the first ones, and all of them where there is room left.
-fn read_full<R: Read>(input: &mut R, room: &mut [u8]) -> io::Result<usize>
-    ensures within { IfOk result (λ n. n ≤ length room.new) }
-    ensures bytes { IfOk result (λ n.
-        Consumes (R.remaining input.old) (R.remaining input.new) (take n room.new)) }
-    ensures end { IfOk result (λ n. n < length room.new → IsAtEnd (R.remaining input.new)) }
-{
-    let mut done = 0;
-    while done < room.len() {
-        let n = input.read(&mut room[done..])?;
-        if n == 0 {
-            return Ok(done);
-        }
-        done += n;
-    }
-    Ok(done)
-}
-
 fn main(rt: HostRuntime) -> io::Result<()> {
     let mut text = [0u8; INPUT];
-    let n = read_full(&mut rt.reader(), &mut text)?;
+    let n = input::read_full(&mut rt.reader(), &mut text)?;
     if n == INPUT {
         return show::say(&rt, b"bad record\n");
     }

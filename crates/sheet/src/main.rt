@@ -5,7 +5,7 @@ use std::io;
 
 fn main(rt: HostRuntime) -> io::Result<()> {
     let mut sheet = [0u8; show::ROOM];
-    let n = show::read_full(&mut rt.reader(), &mut sheet)?;
+    let n = input::read_full(&mut rt.reader(), &mut sheet)?;
     show::show(&rt, &sheet[..n])?;
     Ok(())
 }

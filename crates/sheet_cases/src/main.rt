@@ -10,7 +10,7 @@ fn run(rt: &(impl Files + Print), name: &str) -> io::Result<()> {
         return println!(rt; "not there");
     };
     let mut sheet = [0u8; show::ROOM];
-    let n = show::read_full(&mut file, &mut sheet)?;
+    let n = input::read_full(&mut file, &mut sheet)?;
     show::show(rt, &sheet[..n])?;
     Ok(())
 }

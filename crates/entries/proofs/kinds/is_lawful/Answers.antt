@@ -12,7 +12,7 @@ pub bounds-table-i : goal.bounds-table-i
 bounds-table-i c = omega arith
 
 pub overflow_cast-number : goal.overflow_cast-number
-overflow_cast-number c = omega (arith, c.shared_slice_known-1.given c.loop-i.i)
+overflow_cast-number c = omega (arith, c.type_inv.table c.loop-i.i)
 
 pub offset_bounds-codes-number : goal.offset_bounds-codes-number
 offset_bounds-codes-number c = omega arith

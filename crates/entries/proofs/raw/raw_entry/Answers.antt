@@ -7,24 +7,8 @@ use Rattle.entries.proofs.raw.raw_entry.Goals as goal
 pub returns-then-section-at : goal.returns-then-section-at
 returns-then-section-at c = let a = c.args in in_end (coding_of a.split a.by_table a.kinds.now) a.encoding a.endian a.section.now _ a.locations c.if-section-at.true
 
--- ?? no goal for this
--- part-location-entry-start : tie.Need-slice-bounds-location-entry-start
--- part-location-entry-start c = search rules
-
--- ?? no goal for this
--- part-location-entry-end : tie.Need-slice-bounds-location-entry-end
--- part-location-entry-end c = search rules
-
 pub returns-then-locations : goal.returns-then-locations
 returns-then-locations c = let a = c.args in in_locations (coding_of a.split a.by_table a.kinds.now) a.encoding a.endian a.section.now _ c.if-section-at.false _ a.locations c.if-locations.true c.location_entry.ensures
-
--- ?? no goal for this
--- part-range-entry-start : tie.Need-slice-bounds-range-entry-start
--- part-range-entry-start c = search rules
-
--- ?? no goal for this
--- part-range-entry-end : tie.Need-slice-bounds-range-entry-end
--- part-range-entry-end c = search rules
 
 pub returns : goal.returns
 returns c = let a = c.args in in_ranges (coding_of a.split a.by_table a.kinds.now) a.encoding a.endian a.section.now _ c.if-section-at.false (told_location c.range_entry.result) a.locations c.if-locations.false c.range_entry.ensures

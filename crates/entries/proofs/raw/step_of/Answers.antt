@@ -23,17 +23,5 @@ returns-then-locations c = data_step _ _ _ _ c.in-Bounds.is c.read_expression-r.
 pub overflow_add-result-in-Bounds : goal.overflow_add-result-in-Bounds
 overflow_add-result-in-Bounds c = omega (arith, pair_within _ _ _ _ c.in-Bounds.is _ c.if-locations.false c.requires.within)
 
-pub returns-in-End : goal.returns-in-End
-returns-in-End c = rw c.in-End.is
-
-pub returns-in-Refused : goal.returns-in-Refused
-returns-in-Refused c = rw c.in-Refused.is
-
-pub returns-in-BaseAddress : goal.returns-in-BaseAddress
-returns-in-BaseAddress c = rw c.in-BaseAddress.is
-
-pub returns-in-BaseAddressx : goal.returns-in-BaseAddressx
-returns-in-BaseAddressx c = rw c.in-BaseAddressx.is
-
 pub returns-else-locations : goal.returns-else-locations
 returns-else-locations c = pair_step _ _ _ _ c.in-Bounds.is _ c.if-locations.false c.located-in-Bounds.ensures

@@ -5,4 +5,4 @@ use Rattle.section_bytes.proofs.endianity.le1.Goals as goal
 
 pub returns : goal.returns
 returns c = let a = c.args in
-    rw c.wide.ensures.0 (loaded_byte a.s.now a.at (omega arith) (omega (arith, c.shared_slice_known-2-1.given a.at)))
+    rw c.wide.ensures.0 (loaded_byte a.s.now a.at (omega arith) (omega (arith, c.type_inv.s a.at)))

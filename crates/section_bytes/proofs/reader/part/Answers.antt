@@ -9,14 +9,6 @@ returns-then-n-offset c = sym (part_outside _ _ _ (omega arith))
 pub returns-then-n-offset-2 : goal.returns-then-n-offset-2
 returns-then-n-offset-2 c = sym (part_outside _ _ _ (omega arith))
 
--- ?? no goal for this
--- part-result-start : tie.Need-slice-bounds-result-start
--- part-result-start c = search rules
-
--- ?? no goal for this
--- part-result-end : tie.Need-slice-bounds-result-end
--- part-result-end c = search rules
-
 pub returns : goal.returns
 returns c = let a = c.args in
     let e : a.offset + a.len - a.offset ≡ a.len = omega arith in

@@ -6,10 +6,6 @@ use Rattle.stacks.proofs.places.first_at.Goals as goal
 pub half-k32-requires : goal.half-k32-requires
 half-k32-requires c = (c.requires, omega arith, at_start _ _ c.requires)
 
--- ?? no goal for this
--- element-copy-out-less : tie.Need-element-copy-out-smaller
--- element-copy-out-less c = search rules
-
 pub overflow_add-result : goal.overflow_add-result
 overflow_add-result c = let z = c.half-k1.ensures.most in let y = less_one c.less.ensures in omega arith
 

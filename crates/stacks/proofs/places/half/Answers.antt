@@ -3,10 +3,6 @@ use native.Mathlib.Omega.{arith}
 use Rattle.stacks.proofs.PlaceLaws.{less_times, halved}
 use Rattle.stacks.proofs.places.half.Goals as goal
 
--- ?? no goal for this
--- element-copy-out-less : tie.Need-element-copy-out-smaller
--- element-copy-out-less c = search rules
-
 pub overflow_mul-result : goal.overflow_mul-result
 overflow_mul-result c = let z = less_times c.less.result c.args.width _ _ c.less.ensures in omega arith
 
