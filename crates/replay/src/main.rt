@@ -11,6 +11,8 @@ mod ranges;
 mod show;
 mod walks;
 
+ghost use Rattle.std.specs.Prelude.{◌≤◌, ◌<◌, length};
+
 use lines::{Call, Parsed, ROOM, Took};
 use std::io;
 
