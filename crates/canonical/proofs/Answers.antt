@@ -6,22 +6,19 @@ use mathlib.Core.List.{List}
 use Prim.Native.Nat.{ℕ, ◌+◌, ◌≤◌}
 use native.Mathlib.Omega.{arith}
 use lib.ListN.{length}
+use Rattle.std.specs.Prelude.{Ok, Err}
+use Rattle.std.specs.declared.result.Result.{Result as Answer}
 use Rattle.section_bytes.specs.Read.{Result, gives}
-use Rattle.section_bytes.specs.Error.{number, values, refusal}
+use Rattle.section_bytes.specs.Error.{number, values, refusal, told_value}
 use Rattle.section_bytes.specs.declared.error.Error.{Error}
 use Rattle.section_bytes.specs.declared.error.Error.TheVariants.{BadSheet}
 use Rattle.coverage.specs.Ranges.{Range, limit}
 use Rattle.coverage.specs.Covered.{Source, coverage_of}
 use Rattle.coverage.specs.Kept.{firsts, is_lawful}
-use Rattle.coverage.specs.Gathered.{coverage_within, told_gathered}
+use Rattle.coverage.specs.Gathered.{all, coverage_within}
 use Rattle.canonical.specs.Canonical.{canonical_bytes, canonical_of, canonical_kept}
 use Rattle.coverage.specs.Output.{output, written}
-use Rattle.coverage.specs.Told.{told_wrote}
 use Rattle.coverage.specs.declared.Coverage.{Coverage}
-use Rattle.coverage.specs.declared.collect.Gathered.{Gathered}
-use Rattle.coverage.specs.declared.collect.Gathered.TheVariants as gathered
-use Rattle.coverage.specs.declared.Wrote.{Wrote}
-use Rattle.coverage.specs.declared.Wrote.TheVariants as wrote
 use Rattle.coverage.proofs.KeptLaws.{ranges_are}
 use Rattle.coverage.proofs.Checked.{lawful_few, lawful_apart}
 use Rattle.coverage.proofs.OutputLaws.{written_refused, written_short, all_written}
@@ -32,9 +29,9 @@ use Rattle.canonical.specs.Arrays.{Arrays}
 use Rattle.canonical.specs.Put.{Put}
 
 -- bytes put into an output are what a call has to write
-put_written : (bs l : List ℕ) {m : List ℕ} (r : Wrote) → Put r bs l m → output (told_wrote r) m ≡ written (gives bs) l
-put_written bs l (wrote.Bytes n) p = all_written bs l p.0 p.1 p.2
-put_written bs l (wrote.Refused e) p = rw (p.0, p.2) (sym (written_short bs l p.1))
+put_written : (bs l : List ℕ) {m : List ℕ} (r : Answer ℕ Error) → Put r bs l m → output (told_value r) m ≡ written (gives bs) l
+put_written bs l (Ok n) p = all_written bs l p.0 p.1 p.2
+put_written bs l (Err e) p = rw (p.0, p.2) (sym (written_short bs l p.1))
 
 pub arrays : (c : Coverage) → is_lawful c ≡ true
     → length c.begins ≡ limit → length c.ends ≡ limit → Arrays c.n c.begins c.ends
@@ -47,20 +44,20 @@ module _ (c : Coverage) (l : List ℕ) where
   unfolding canonical_kept
   canonical_refused e = rw e (sym (written_refused (number BadSheet) (values BadSheet) l))
 
-  pub canonical_put : {m : List ℕ} (r : Wrote) → is_lawful c ≡ true → Put r (canonical_bytes (firsts c.n c.begins c.ends)) l m
-      → output (told_wrote r) m ≡ written (canonical_kept c) l
+  pub canonical_put : {m : List ℕ} (r : Answer ℕ Error) → is_lawful c ≡ true → Put r (canonical_bytes (firsts c.n c.begins c.ends)) l m
+      → output (told_value r) m ≡ written (canonical_kept c) l
   canonical_put r law p = rw (kept_bytes c law, ranges_are c) (put_written (canonical_bytes (firsts c.n c.begins c.ends)) l r p)
 
 -- what a call gathered has the arrays of a canonical list
-pub list_arrays : (done : List Range) (room : ℕ) (x : Source) (k : Gathered) (bs es : List ℕ) → told_gathered k bs es ≡ coverage_within done room x
-    → length done + room ≤ limit → length done + room ≤ length bs → length es ≡ length bs → {n : ℕ} → k ≡ gathered.All n → Arrays n bs es
-list_arrays done room x k bs es g f r s q =
-    let h = told_few done room x k bs es g q in
-    record { few = omega arith; room = omega arith; sized = (refl, s); apart = told_apart done room x k bs es g q }
+pub list_arrays : (done : List Range) (room : ℕ) (x : Source) {n : ℕ} (bs es : List ℕ) → gives (all n (firsts n bs es)) ≡ coverage_within done room x
+    → length done + room ≤ limit → length done + room ≤ length bs → length es ≡ length bs → Arrays n bs es
+list_arrays done room x bs es g f r s =
+    let h = told_few done room x bs es g in
+    record { few = omega arith; room = omega arith; sized = (refl, s); apart = told_apart done room x bs es g }
 
 -- the canonical list of ranges that are given, or their refusal
 module _ (r : Result (List Range)) (l : List ℕ) where
-  pub list_put : {rs : List Range} (w : Wrote) {m : List ℕ} → r ≡ gives rs → Put w (canonical_bytes rs) l m → output (told_wrote w) m ≡ written (mapped canonical_bytes r) l
+  pub list_put : {rs : List Range} (w : Answer ℕ Error) {m : List ℕ} → r ≡ gives rs → Put w (canonical_bytes rs) l m → output (told_value w) m ≡ written (mapped canonical_bytes r) l
   list_put {rs} w e p = rw e (put_written (canonical_bytes rs) l w p)
 
   pub list_refused : (e : Error) → r ≡ refusal e → output (refusal e) l ≡ written (mapped canonical_bytes r) l

@@ -1,12 +1,13 @@
 -- Canonical form: bytes that are the canonical list of some coverage. And how it is told piece by piece, from front to end.
-use Rattle.std.specs.Prelude.{Bool, true, false, List, [], ◌∷◌, ◌++◌, ◌≡◌, ℕ, ◌^◌, ◌<◌, drop, get_or}
+use Rattle.std.specs.Prelude.{Bool, true, false, List, [], ◌∷◌, ◌++◌, ◌≡◌, ℕ, ◌^◌, ◌<◌, drop, get_or, Some, None}
+use Rattle.std.specs.declared.option.Option.{Option}
 use Rattle.section_bytes.specs.Read.{gives}
 use Rattle.lists.specs.Walks.{InBounds}
 use Rattle.coverage.specs.Ranges.{Range}
 use Rattle.coverage.specs.declared.Coverage.{Coverage}
 use Rattle.canonical.specs.Canonical.{entry_bytes, canonical_kept}
 use Rattle.canonical.specs.declared.form.Piece.{Piece}
-use Rattle.canonical.specs.declared.form.Piece.TheVariants.{End, Entry, Other}
+use Rattle.canonical.specs.declared.form.Piece.TheVariants.{End, Entry}
 
 -- some coverage, of 64-bit numbers as every coverage is, whose canonical list the bytes are
 pub record CanonicalForm (bytes : List ℕ) : Type 0 where
@@ -25,7 +26,7 @@ pub record Neither (bytes : List ℕ) : Type 0 where
   pub entry : (r : Range) (rest : List ℕ) → InBounds 8 r.0 r.1 → bytes ≡ entry_bytes r ++ rest → ⊥
 
 -- what stands at a place of bytes
-abbrev pub PieceAt : List ℕ → ℕ → Piece → Type 0
-PieceAt s at End = drop at s ≡ 0 ∷ []
-PieceAt s at (Entry b e c) = InBounds 8 b e × (drop at s ≡ entry_bytes (b, e) ++ drop c s)
-PieceAt s at Other = Neither (drop at s)
+abbrev pub PieceAt : List ℕ → ℕ → Option Piece → Type 0
+PieceAt s at (Some End) = drop at s ≡ 0 ∷ []
+PieceAt s at (Some (Entry b e c)) = InBounds 8 b e × (drop at s ≡ entry_bytes (b, e) ++ drop c s)
+PieceAt s at None = Neither (drop at s)

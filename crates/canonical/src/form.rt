@@ -5,17 +5,15 @@ ghost use Rattle.canonical.specs.Form.{CanonicalForm, Decides, PieceAt};
 
 use coverage::LIMIT;
 use entries::constants;
-use section_bytes::Num;
 use section_bytes::endianity::RunTimeEndian;
 use section_bytes::leb128::unsigned_size;
 
-// What stands at a place: the end mark as the last byte; the entry of a range as a canonical list has it, by begin, end and the
-// place after it; or neither.
+// What stands at a place of a canonical list: the end mark as the last byte; or the entry of a range, by begin, end and the place
+// after it.
 #[derive(Clone, Copy)]
 enum Piece {
     End,
     Entry(u64, u64, usize),
-    Other,
 }
 
 // Whether a begin and a length make a range that a coverage may keep.
@@ -34,36 +32,35 @@ fn is_range(begin: u64, length: u64) -> bool
     true
 }
 
-// The piece at a place.
-fn piece_at(bytes: &[u8], at: usize) -> Piece
+// The piece at a place, or none.
+fn piece_at(bytes: &[u8], at: usize) -> Option<Piece>
     ensures { PieceAt bytes.now at result }
 {
-    let Num::Got(code, c) = section_bytes::reader::read_u8(bytes, at) else {
-        return Piece::Other;
+    let Ok((code, c)) = section_bytes::reader::read_u8(bytes, at) else {
+        return None;
     };
     if code == constants::DW_RLE_end_of_list {
         if c < bytes.len() {
-            return Piece::Other;
+            return None;
         }
-        return Piece::End;
+        return Some(Piece::End);
     }
     if code != constants::DW_RLE_start_length {
-        return Piece::Other;
+        return None;
     }
-    let Num::Got(begin, c1) = section_bytes::reader::read_u64(bytes, c, RunTimeEndian::Little)
-    else {
-        return Piece::Other;
+    let Ok((begin, c1)) = section_bytes::reader::read_u64(bytes, c, RunTimeEndian::Little) else {
+        return None;
     };
-    let Num::Got(length, c2) = section_bytes::leb128::unsigned(bytes, c1) else {
-        return Piece::Other;
+    let Ok((length, c2)) = section_bytes::leb128::unsigned(bytes, c1) else {
+        return None;
     };
     if unsigned_size(length) != c2 - c1 {
-        return Piece::Other;
+        return None;
     }
     if is_range(begin, length) {
-        return Piece::Entry(begin, begin + length, c2);
+        return Some(Piece::Entry(begin, begin + length, c2));
     }
-    Piece::Other
+    None
 }
 
 // Whether bytes are the canonical list of some coverage.
@@ -75,13 +72,13 @@ pub fn is_canonical(bytes: &[u8]) -> bool
     let mut last: u64 = 0;
     while n <= LIMIT {
         match piece_at(bytes, at) {
-            Piece::End => {
+            Some(Piece::End) => {
                 return true;
             }
-            Piece::Other => {
+            None => {
                 return false;
             }
-            Piece::Entry(begin, end, c) => {
+            Some(Piece::Entry(begin, end, c)) => {
                 if 0 < n {
                     if begin <= last {
                         return false;

@@ -9,13 +9,13 @@ ghost use Rattle.std.proofs.lemmas.List.Edits.{sets};
 ghost use Rattle.section_bytes.specs.Written.{unsigned_bytes};
 ghost use Rattle.canonical.specs.Canonical.{canonical_bytes, canonical_kept};
 ghost use Rattle.coverage.specs.Output.{output, written};
-ghost use Rattle.coverage.specs.Told.{told_wrote};
+ghost use Rattle.section_bytes.specs.Error.{told_value};
 ghost use Rattle.coverage.specs.Kept.{counted, firsts};
 ghost use Rattle.canonical.specs.Arrays.{Arrays};
 ghost use Rattle.canonical.specs.Put.{Enough, Put};
 
 use coverage::lawful::is_lawful;
-use coverage::{Coverage, LIMIT, Wrote};
+use coverage::{Coverage, LIMIT};
 use entries::constants;
 use section_bytes::error::Error;
 use section_bytes::leb128::unsigned_size;
@@ -87,30 +87,40 @@ fn write(n: usize, begins: &[u64], ends: &[u64], out: &mut [u8]) -> usize
 
 // The canonical list of the first n ranges, and how many bytes it has; where the output is shorter, 11, and nothing is
 // written.
-pub(crate) fn put_list(n: usize, begins: &[u64], ends: &[u64], out: &mut [u8]) -> Wrote
+pub(crate) fn put_list(
+    n: usize,
+    begins: &[u64],
+    ends: &[u64],
+    out: &mut [u8],
+) -> Result<usize, Error>
     requires { Arrays n begins.now ends.now }
     ensures { Put result (canonical_bytes (firsts n begins.now ends.now)) out.old out.new }
 {
     let len = enough(n, begins, ends, out.len());
     if out.len() < len {
-        return Wrote::Refused(Error::NoSpace);
+        return Err(Error::NoSpace);
     }
-    Wrote::Bytes(write(n, begins, ends, out))
+    Ok(write(n, begins, ends, out))
 }
 
 // The canonical list of a coverage in two arrays, and how many bytes it has: 12 where it makes no lawful sheet, then 11.
-pub fn canonical_of(n: usize, begins: &[u64; LIMIT], ends: &[u64; LIMIT], out: &mut [u8]) -> Wrote
-    ensures { output (told_wrote result) out.new ≡ written (canonical_kept (counted n begins.now ends.now)) out.old }
+pub fn canonical_of(
+    n: usize,
+    begins: &[u64; LIMIT],
+    ends: &[u64; LIMIT],
+    out: &mut [u8],
+) -> Result<usize, Error>
+    ensures { output (told_value result) out.new ≡ written (canonical_kept (counted n begins.now ends.now)) out.old }
 {
     if !is_lawful(n, begins, ends) {
-        return Wrote::Refused(Error::BadSheet);
+        return Err(Error::BadSheet);
     }
     put_list(n, begins, ends, out)
 }
 
 // The same of a coverage by value.
-pub fn canonical(coverage: Coverage, out: &mut [u8]) -> Wrote
-    ensures { output (told_wrote result) out.new ≡ written (canonical_kept coverage) out.old }
+pub fn canonical(coverage: Coverage, out: &mut [u8]) -> Result<usize, Error>
+    ensures { output (told_value result) out.new ≡ written (canonical_kept coverage) out.old }
 {
     let begins = coverage.begins;
     let ends = coverage.ends;

@@ -1,5 +1,6 @@
 -- Marks, step after step (docs/SCOPE.md, "Marks"): each walk is shown with its place, its base address and the entries that were read.
-use Rattle.std.specs.Prelude.{◌≡◌, refl, Bool, true, false, List, [], ◌∷◌, ◌≢◌, ℕ, ◌-◌, ◌^◌}
+use Rattle.std.specs.Prelude.{◌≡◌, refl, Bool, true, false, List, [], ◌∷◌, ◌≢◌, ℕ, ◌-◌, ◌^◌, Some, None}
+use Rattle.std.specs.declared.option.Option.{Option}
 use Rattle.section_bytes.specs.Read.{gives, refused}
 use Rattle.section_bytes.specs.Endianity.{little}
 use Rattle.section_bytes.specs.Leb128.{unsigned_from, unsigned}
@@ -26,19 +27,12 @@ use Rattle.marks.specs.Calls as calls
 use Rattle.marks.specs.Calls.{Source, Call, Answer, over, AnyCall, AnyAnswer, on, of, every}
 use Rattle.marks.specs.Marks.{Marked, marked, fresh, set_mark, return_to, Handed, handed, answered}
 use Rattle.marks.specs.Steps.{Step, reads, sets, returns, Tells, read, marking, run, answers, NoReturn, NotSet}
-use Rattle.marks.specs.Told.{mark, structs}
-use Rattle.marks.specs.declared.Mark.{Mark}
+use Rattle.marks.specs.Told.{structs}
 use Rattle.cases.specs.Cases.{enc, table, expression}
 
-abbrev unset : Mark
-unset = mark false (walk_at 0 0 0)
-
-abbrev to : Walk → Mark
-to w = mark true w
-
 -- marks 0, 1, 2 and 7; the others are not set
-abbrev eight : Mark → Mark → Mark → Mark → List Mark
-eight a b c z = a ∷ b ∷ c ∷ unset ∷ unset ∷ unset ∷ unset ∷ z ∷ []
+abbrev eight : Option Walk → Option Walk → Option Walk → Option Walk → List (Option Walk)
+eight a b c z = a ∷ b ∷ c ∷ None ∷ None ∷ None ∷ None ∷ z ∷ []
 
 abbrev first : Walk
 first = walk_at 6 0x1000 1
@@ -50,22 +44,22 @@ abbrev third : Walk
 third = walk_at 18 0x3000 3
 
 -- marks 0 and 1 are set, and the walk has gone on
-abbrev some : Marked Walk Mark
-some = marked third (eight (to first) (to second) unset unset)
+abbrev some : Marked Walk (Option Walk)
+some = marked third (eight (Some first) (Some second) None None)
 
 -- a mark that was not set, the last one that there is, and one that was set before
-set_seven : set_mark structs 7 some ≡ gives (marked third (eight (to first) (to second) unset (to third)))
+set_seven : set_mark structs 7 some ≡ gives (marked third (eight (Some first) (Some second) None (Some third)))
 set_seven = refl
 
-set_one : set_mark structs 1 some ≡ gives (marked third (eight (to first) (to third) unset unset))
+set_one : set_mark structs 1 some ≡ gives (marked third (eight (Some first) (Some third) None None))
 set_one = refl
 
 -- place, base address and count come back, and the marks stay
-return_one : return_to structs 1 some ≡ gives (marked second (eight (to first) (to second) unset unset))
+return_one : return_to structs 1 some ≡ gives (marked second (eight (Some first) (Some second) None None))
 return_one = refl
 
--- a number above 7, and a mark that is not set, whatever walk stands in it: 13, and nothing changes
-abbrev unchanged : Handed Walk Mark
+-- a number above 7, and a mark that is not set: 13, and nothing changes
+abbrev unchanged : Handed Walk (Option Walk)
 unchanged = handed (refused 13 []) some
 
 above_seven : answered some (set_mark structs 8 some) ∷ answered some (set_mark structs (2 ^ 64 - 1) some) ∷ answered some (return_to structs 8 some)
@@ -76,7 +70,7 @@ above_seven = refl
 never_set : answered some (return_to structs 2 some) ∷ answered some (return_to structs 7 some) ∷ [] ≡ unchanged ∷ unchanged ∷ []
 never_set = refl
 
-not_set : return_to structs 0 (marked third (eight (mark false first) unset unset unset)) ≡ refused 13 []
+not_set : return_to structs 0 (marked third (eight None None None None)) ≡ refused 13 []
 not_set = refl
 
 -- steps from a walk with no mark set: what they tell, and the walk with its marks behind them
@@ -86,7 +80,7 @@ unfolding
     coded_padded number_at is_padded address skip uint is_size little unsigned unsigned_from unsigned_in
 along x steps w = answers structs (over x) steps (fresh structs w)
 
-behind : (x : Source) → List (Step (Call x.locations)) → Walk → Marked Walk Mark
+behind : (x : Source) → List (Step (Call x.locations)) → Walk → Marked Walk (Option Walk)
 unfolding along
 behind x steps w = run structs (over x) steps (fresh structs w)
 
@@ -148,7 +142,7 @@ two_returns = refl
 
 -- a return among settings, and refused steps: mark 2 stores the walk that the return brought back
 return_and_set : behind (ranges three) (nexts ∷ sets 0 ∷ nexts ∷ sets 1 ∷ sets 8 ∷ returns 5 ∷ returns 0 ∷ sets 2 ∷ nexts ∷ nexts ∷ returns 8 ∷ sets 7 ∷ []) (walk_at 0 0 0)
-    ≡ marked (walk_at 18 0 3) (eight (to (walk_at 6 0 1)) (to (walk_at 12 0 2)) (to (walk_at 6 0 1)) (to (walk_at 18 0 3)))
+    ≡ marked (walk_at 18 0 3) (eight (Some (walk_at 6 0 1)) (Some (walk_at 12 0 2)) (Some (walk_at 6 0 1)) (Some (walk_at 18 0 3)))
 unfolding behind
 return_and_set = refl
 

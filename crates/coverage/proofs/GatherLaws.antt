@@ -1,41 +1,46 @@
 -- Ranges gathered at the front of two arrays, a call of the walk at a time, and the coverage that they make, with more room too.
 -- Assumes nothing.
-use Rattle.std.proofs.Common.{◌≡◌, ℕ, zero, suc, ◌+◌, ◌-◌, ◌<◌, ◌≤◌, Bool, true, false, ◌↔◌, List, [], ◌∷◌, ◌++◌, length, take, set, sym, refl, ap, ◌∙◌, subst, ap₂, inl, inr, ⊎_elim, append_assoc, append-nil, add-one, arith, length-append, length-set, length-take, take-suc-set, le-ltb, lt-ltb}
+use Rattle.std.proofs.Common.{◌≡◌, ℕ, zero, suc, ◌+◌, ◌-◌, ◌<◌, ◌≤◌, Bool, true, false, ◌↔◌, List, [], ◌∷◌, ◌++◌, length, take, set, sym, refl, ap, ◌∙◌, subst, ap₂, inl, inr, ⊎_elim, append_assoc, append-nil, add-one, arith, length-append, length-set, length-take, take-suc-set, take_at, le-ltb, lt-ltb}
+use Rattle.std.specs.Prelude.{Some, None, Ok, Err}
+use Rattle.std.specs.declared.option.Option.{Option}
+use Rattle.std.specs.declared.result.Result.{Result as Answer}
+use lib.Seq.{take_all}
 use Rattle.section_bytes.specs.Read.{Result, gives, refused}
-use Rattle.section_bytes.specs.Error.{number, values, refusal}
+use Rattle.section_bytes.specs.Error.{refusal}
 use Rattle.section_bytes.specs.Reader.{is_size}
-use Rattle.section_bytes.specs.declared.common.DebugAddrBase.{DebugAddrBase}
-use Rattle.section_bytes.specs.declared.common.Encoding.{Encoding}
-use Rattle.section_bytes.specs.declared.endianity.RunTimeEndian.{RunTimeEndian}
 use Rattle.section_bytes.specs.declared.error.Error.{Error}
 use Rattle.section_bytes.specs.declared.error.Error.TheVariants.{TooManyRanges}
 use Rattle.section_bytes.proofs.Order.{lt_or_le}
-use Rattle.entries.specs.Numbers.{coding_of, dwarf, tabled}
+use Rattle.entries.specs.Lists.{are_locations, coding_in}
+use Rattle.entries.specs.Numbers.{Coding, dwarf, tabled}
+use Rattle.entries.specs.declared.Lists.{Lists}
+use Rattle.entries.specs.declared.Lists.TheVariants.{Ranges, Locations}
 use Rattle.lists.specs.Open.{opened}
 use Rattle.lists.specs.Convert.{table_at}
-use Rattle.lists.specs.Walk as both
-use Rattle.lists.specs.Walk.{Item, item, Trace, over, trace, first, handed}
+use Rattle.lists.specs.Walk.{Item, item, Trace, over, first, handed, data_in, next_in, next_in_unit, told_next_location}
 use Rattle.lists.specs.Walks.{Hands}
 use Rattle.lists.specs.Uncounted.{uncounted, trace_uncounted}
+use Rattle.lists.specs.declared.LocationListEntry.{LocationListEntry}
+use Rattle.lists.specs.declared.Unit.{Unit as DwarfUnit}
 use Rattle.lists.specs.declared.Walk.{Walk}
 use Rattle.lists.proofs.ConvertLaws.{opened_list}
 use Rattle.lists.proofs.OpenLaws.{opened_size, opened_inside}
 use Rattle.lists.proofs.WalkLaws.{Moved, next_first}
 use Rattle.lists.proofs.Theorems.{hands_out}
 use Rattle.lists.proofs.Past.{listed_past}
-use Rattle.lists.proofs.CallLaws.{next_ahead}
+use Rattle.lists.proofs.CallLaws.{next_hands, next_ends, next_ahead}
 use Rattle.lists.proofs.CountLaws.{trace_uncounted_lem}
+use Rattle.lists.proofs.NextLaws.{does}
 use Rattle.coverage.specs.Ranges.{Range, Covers, Apart, limit, runs}
-use Rattle.coverage.specs.Covered.{yielded_in, Holds, range_list, range_list_by, location_list, holding, Source, source, listing, trace_of, coverage_of, Bytes}
+use Rattle.coverage.specs.Covered.{yielded_in, Holds, range_list, range_list_by, location_list, holding, Source, source, listing, trace_of, coverage_of}
 use Rattle.coverage.specs.Kept.{paired, firsts}
 use Rattle.coverage.specs.Gathered.{short, Stored, Within, all, full, in_front, within, nonempty, covering, coverage_within, list_from, or_too_many, told_gathered}
-use Rattle.coverage.specs.Sorted.{Sized, AtLeast, Copied, ToRuns}
-use Rattle.coverage.specs.declared.collect.Gathered.{Gathered}
+use Rattle.coverage.specs.Sorted.{Sized, AtLeast, ToRuns}
 use Rattle.coverage.specs.declared.collect.Gathered.TheVariants as gathered
 use Rattle.coverage.proofs.CallLaws.{after, after_none, coverage_refused, coverage_opened}
-use Rattle.coverage.proofs.Small.{Small}
 use Rattle.coverage.proofs.RangeLaws.{Proper, unique, runs_apart, runs_cover, runs_length}
-use Rattle.coverage.proofs.CoveredLaws.{mapped, Given, onward_given, walked_small, small_proper}
+use Rattle.coverage.proofs.CoveredLaws.{mapped, Given, onward_given}
+use Rattle.coverage.proofs.ProperLaws.{walked_proper}
 use Rattle.coverage.proofs.SortLaws.{length_first}
 use Rattle.coverage.proofs.KeptLaws.{take_paired}
 
@@ -139,7 +144,7 @@ module _ {D : Type 0} {room : ℕ} {v : Walk} {t : Trace D} {bs es : List ℕ} {
           sized = (length-set bs n b ∙ lb, length-set es n e ∙ le);
         }
 
-    many : {i : Item D} {w : Walk} {u : Trace D} → room ≤ n → t ≡ handed (gives i) w u → told_gathered (gathered.Full (uncounted v)) bs es ≡ goal
+    many : {i : Item D} {w : Walk} {u : Trace D} → room ≤ n → t ≡ handed (gives i) w u → told_gathered (Ok (gathered.Full (uncounted v))) bs es ≡ goal
     many h q =
         let r : room - n ≡ 0 = omega arith in
         let l : length bs ≡ n = omega (arith, g.few, g.sized.0) in
@@ -155,12 +160,12 @@ module _ {D : Type 0} {room : ℕ} {v : Walk} {t : Trace D} {bs es : List ℕ} {
           let k : Stored true (b, e) n bs es xs ys = rw h at s in
           rw (k.1, k.2) (more (omega (arith, k.0, g.sized.0)) q)
 
-      pub gathering_many : r ≡ false → told_gathered (gathered.Full (uncounted v)) xs ys ≡ goal
+      pub gathering_many : r ≡ false → told_gathered (Ok (gathered.Full (uncounted v))) xs ys ≡ goal
       gathering_many h =
           let k : Stored false (b, e) n bs es xs ys = rw h at s in
           rw (k.1, k.2) (many (omega (arith, k.0, g.sized.0)) q)
 
-    pub gathering_over : {w : Walk} → t ≡ over w → told_gathered (gathered.All n) bs es ≡ goal
+    pub gathering_over : {w : Walk} → t ≡ over w → told_gathered (Ok (gathered.All n)) bs es ≡ goal
     gathering_over q =
         let l = length_first bs es n (omega (arith, g.few, g.sized.0)) (omega (arith, g.few, g.sized.1)) in
         let k : n ≡ length (firsts n bs es) + 0 = omega (arith, l) in
@@ -168,8 +173,26 @@ module _ {D : Type 0} {room : ℕ} {v : Walk} {t : Trace D} {bs es : List ℕ} {
         ∙ ap (in_front (firsts n bs es)) (sym (within_over (room - n) v q))
         ∙ g.same
 
-    pub gathering_lost : (e : Error) {w : Walk} {u : Trace D} → t ≡ handed (refused (number e) (values e)) w u → told_gathered (gathered.Refused e) bs es ≡ goal
+    pub gathering_lost : (e : Error) {w : Walk} {u : Trace D} → t ≡ handed (refusal e) w u → refusal e ≡ goal
     gathering_lost e q = ap (in_front (firsts n bs es)) (sym (within_lost (room - n) v q)) ∙ g.same
+
+-- what a call of the walk told, with the walk after it
+module _ (l : Bool) (coding : Coding) (s : List ℕ) (u : DwarfUnit) (v : Walk) (h : is_size u.encoding.address_size ≡ true) {r : Answer (Option LocationListEntry) Error} (w : Walk) (p : next_in l (told_next_location r w) ≡ next_in_unit l coding s u v) where
+  told_as : {q : Answer (Option LocationListEntry) Error} → r ≡ q → next_in_unit l coding s u v ≡ next_in l (told_next_location q w)
+  told_as e = sym p ∙ ap (λ (r : Answer (Option LocationListEntry) Error). next_in l (told_next_location r w)) e
+
+  pub called_lost : {e : Error} → r ≡ Err e → does l coding s u v ≡ handed (refusal e) w (does l coding s u w)
+  called_lost q = next_hands _ _ _ _ (listed_past l coding u.encoding u.endian s) v h (told_as q)
+
+  pub called_over : {o : Option LocationListEntry} → r ≡ Ok o → o ≡ None → does l coding s u v ≡ over w
+  called_over q e = next_ends _ _ _ _ (listed_past l coding u.encoding u.endian s) v h (told_as (q ∙ ap (λ o. Ok o) e))
+
+  module _ {o : Option LocationListEntry} {x : LocationListEntry} (q : r ≡ Ok o) (e : o ≡ Some x) where
+    pub called_found : does l coding s u v ≡ handed (gives (item x.range.begin x.range.end (data_in l x.«data»))) w (does l coding s u w)
+    called_found = next_hands _ _ _ _ (listed_past l coding u.encoding u.endian s) v h (told_as (q ∙ ap (λ o. Ok o) e))
+
+    pub called_ahead : (v.at < w.at) × (w.at ≤ length s)
+    called_ahead = next_ahead _ _ _ _ (listed_past l coding u.encoding u.endian s) v h (told_as (q ∙ ap (λ o. Ok o) e))
 
 pub stored_sized : (r : Bool) (q : Range) (n room : ℕ) (bs es xs ys : List ℕ) → Stored r q n bs es xs ys → r ≡ false → Sized room bs es → Sized room xs ys
 stored_sized r q n room bs es xs ys s h z =
@@ -248,9 +271,9 @@ module _ (done : List Range) (room : ℕ) (x : Source) where
   abbrev opens : Result Walk
   opens = opened x.encoding x.section x.offset x.base_address
 
-  pub cover_refused : (e : Error) (bs es : List ℕ) → opens ≡ refusal e → told_gathered (gathered.Refused e) bs es ≡ coverage_within done room x
+  pub cover_refused : (e : Error) → refusal e ≡ opens → refusal e ≡ coverage_within done room x
   unfolding coverage_within
-  cover_refused e bs es o = rw o
+  cover_refused e o = rw (← o)
 
   within_coverage : {w : Walk} → opens ≡ gives w → coverage_within done room x ≡ mapped covering (in_front done (within room w (trace_of x w)))
   unfolding coverage_within
@@ -268,46 +291,40 @@ module _ (done : List Range) (room : ℕ) (x : Source) where
       onward_given Runs opens (λ w. mapped covering (in_front done (within room w (trace_of x w))))
       (λ w e. covering_runs (in_front done (within room w (trace_of x w))))
 
--- the same of a list by three tests and a table
-module _ (done : List Range) (room : ℕ) (split by : Bool) (kinds : List ℕ) (encoding : Encoding) (endian : RunTimeEndian) (s : List ℕ) (offset base : ℕ) (table : List ℕ) (tableBase : DebugAddrBase) {w : Walk} (o : opened encoding s offset base ≡ gives w) where
-  abbrev walkedBy : Bool → Result Within
-  walkedBy l = in_front done (within room w (trace (both.listed l (coding_of split by kinds) encoding endian s) (table_at endian encoding tableBase table) encoding.address_size (length s) w))
+-- the same of a list as the code has it, from the walk that it opens with
+module _ (done : List Range) (room : ℕ) (s : List ℕ) (u : DwarfUnit) (offset base : ℕ) {w : Walk} (o : opened u.encoding s offset base ≡ gives w) where
+  abbrev walked : Lists → Result Within
+  walked k = in_front done (within room w (does (are_locations k) (coding_in k) s u w))
 
-  abbrev sourceBy : Bool → Source
-  sourceBy l = source (holding l split by kinds) encoding endian s offset base table tableBase
+  abbrev walks : Lists → Source
+  walks k = source (holding k) u.encoding u.endian s offset base u.debug_addr.now u.debug_addr_base
 
-  walked_coverage : (l : Bool) → coverage_within done room (sourceBy l) ≡ mapped covering (walkedBy l)
+  walked_coverage : (k : Lists) → coverage_within done room (walks k) ≡ mapped covering (walked k)
   unfolding trace_of
-  walked_coverage true = within_coverage done room (sourceBy true) o
-  walked_coverage false = either by
-    where
-      either : (t : Bool) → coverage_within done room (source (holding false split t kinds) encoding endian s offset base table tableBase)
-          ≡ mapped covering (in_front done (within room w (trace (both.listed false (coding_of split t kinds) encoding endian s) (table_at endian encoding tableBase table) encoding.address_size (length s) w)))
-      either true = within_coverage done room (source (range_list_by kinds) encoding endian s offset base table tableBase) o
-      either false = within_coverage done room (source range_list encoding endian s offset base table tableBase) o
+  walked_coverage (Ranges None) = within_coverage done room (walks (Ranges None)) o
+  walked_coverage (Ranges (Some t)) = within_coverage done room (walks (Ranges (Some t))) o
+  walked_coverage (Locations file) = within_coverage done room (walks (Locations file)) o
 
-  module _ (l : Bool) (k : Gathered) (bs es : List ℕ) (g : told_gathered k bs es ≡ walkedBy l) where
-    pub gathered_few : {n : ℕ} → k ≡ gathered.All n → n ≤ length done + room
-    gathered_few {n} q =
-        let e : walkedBy l ≡ gives (all n (firsts n bs es)) = sym g ∙ ap (λ (k : Gathered). told_gathered k bs es) q in
-        (subst (Given (Fits (length done + room))) e (gathered_fits done room w (trace (both.listed l (coding_of split by kinds) encoding endian s) (table_at endian encoding tableBase table) encoding.address_size (length s) w))).0
+  module _ (k : Lists) (bs es : List ℕ) where
+    pub gathered_few : {n : ℕ} → gives (all n (firsts n bs es)) ≡ walked k → n ≤ length done + room
+    gathered_few {n} g =
+        (subst (Given (Fits (length done + room))) (sym g) (gathered_fits done room w (does (are_locations k) (coding_in k) s u w))).0
 
-    pub cover_got : {n r : ℕ} (xs ys : List ℕ) → k ≡ gathered.All n → AtLeast n bs es → ToRuns (firsts n bs es) (length bs) xs ys r → told_gathered (gathered.All r) xs ys ≡ coverage_within done room (sourceBy l)
-    cover_got {n} {r} xs ys q h t =
+    pub cover_got : {n r : ℕ} (xs ys : List ℕ) → gives (all n (firsts n bs es)) ≡ walked k → AtLeast n bs es → ToRuns (firsts n bs es) (length bs) xs ys r → gives (all r (firsts r xs ys)) ≡ coverage_within done room (walks k)
+    cover_got {n} {r} xs ys g h t =
         let e = to_runs_exact t in
         let m = length_first bs es n h.0 h.1 in
         let i : length (firsts r xs ys) ≡ r = length_first xs ys r (omega (arith, t.few, m, h.0, t.sized.0)) (omega (arith, t.few, m, h.0, t.sized.1)) in
         let j : r ≡ length (runs (nonempty (firsts n bs es))) = sym i ∙ ap (λ (l : List Range). length l) e in
         ap₂ (λ (k : ℕ) (l : List Range). gives (all k l)) j e
-        ∙ ap (λ (k : Gathered). mapped covering (told_gathered k bs es)) (sym q)
         ∙ ap (mapped covering) g
-        ∙ sym (walked_coverage l)
+        ∙ sym (walked_coverage k)
 
-    pub cover_full : {v : Walk} → k ≡ gathered.Full v → told_gathered (gathered.Full v) bs es ≡ coverage_within done room (sourceBy l)
-    cover_full q = ap (λ (k : Gathered). mapped covering (told_gathered k bs es)) (sym q) ∙ ap (mapped covering) g ∙ sym (walked_coverage l)
+  pub cover_full : (k : Lists) {rs : List Range} {v : Walk} → gives (full rs v) ≡ walked k → gives (full rs v) ≡ coverage_within done room (walks k)
+  cover_full k g = ap (mapped covering) g ∙ sym (walked_coverage k)
 
-    pub cover_lost : (e : Error) → k ≡ gathered.Refused e → told_gathered (gathered.Refused e) bs es ≡ coverage_within done room (sourceBy l)
-    cover_lost e q = ap (λ (k : Gathered). mapped covering (told_gathered k bs es)) (sym q) ∙ ap (mapped covering) g ∙ sym (walked_coverage l)
+  pub cover_lost : (k : Lists) (e : Error) → refusal e ≡ walked k → refusal e ≡ coverage_within done room (walks k)
+  cover_lost k e g = ap (mapped covering) g ∙ sym (walked_coverage k)
 
 -- ---- with more room
 module _ (x : Source) where
@@ -402,7 +419,7 @@ module _ (x : Source) where
     opened_rest w k = opened_list x.encoding x.section w.at w.base_address h k
 
 -- a list's coverage, from what was gathered with less room
-module _ (x : Source) (b : Bytes x) where
+module _ (x : Source) where
   abbrev opening : Result Walk
   opening = opened x.encoding x.section x.offset x.base_address
 
@@ -415,7 +432,7 @@ module _ (x : Source) (b : Bytes x) where
 
   module _ {v : Walk} (o : opening ≡ gives v) where
     runs_nonempty : (rs : List Range) → yielded_in limit (trace_of x v) ≡ gives rs → runs rs ≡ runs (nonempty rs)
-    runs_nonempty rs e = ap runs (sym (nonempty_same rs (small_proper rs (subst (Given Small) e (walked_small x b o limit)))))
+    runs_nonempty rs e = ap runs (sym (nonempty_same rs (subst (Given Proper) e (walked_proper x limit v))))
 
     goes_last : (done : List Range) (r : Result Within) → yielded_in limit (trace_of x v) ≡ after done (or_too_many r)
         → mapped runs (after done (or_too_many r)) ≡ or_too_many (mapped covering (in_front done r))
@@ -474,50 +491,42 @@ module _ (x : Source) (b : Bytes x) where
     coverage_goes_on = by_opening (coverage_of x ≡ goesOn (coverage_within [] room x)) (λ v o. opened_goes o) (λ n vs o. refused_goes o)
 
 -- ---- what a call told that gathered
-module _ (done : List Range) (room : ℕ) (x : Source) (k : Gathered) (bs es : List ℕ) (g : told_gathered k bs es ≡ coverage_within done room x) where
-  told_is : (j : Gathered) → k ≡ j → coverage_within done room x ≡ told_gathered j bs es
-  told_is j q = sym g ∙ ap (λ (k : Gathered). told_gathered k bs es) q
-
-  module _ {n : ℕ} (q : k ≡ gathered.All n) where
+module _ (done : List Range) (room : ℕ) (x : Source) (bs es : List ℕ) where
+  module _ {n : ℕ} (g : gives (all n (firsts n bs es)) ≡ coverage_within done room x) where
     pub told_all : or_too_many (coverage_within done room x) ≡ gives (firsts n bs es)
-    told_all = ap or_too_many (told_is _ q)
+    told_all = ap or_too_many (sym g)
 
     pub told_few : n ≤ length done + room
-    told_few = (subst (Given (Fits (length done + room))) (told_is _ q) (coverage_fits done room x)).0
+    told_few = (subst (Given (Fits (length done + room))) (sym g) (coverage_fits done room x)).0
 
     pub told_apart : Apart (firsts n bs es)
-    told_apart = subst (Given Runs) (told_is _ q) (coverage_runs done room x)
+    told_apart = subst (Given Runs) (sym g) (coverage_runs done room x)
 
-  pub told_full : {w : Walk} → k ≡ gathered.Full w → or_too_many (coverage_within done room x) ≡ refusal TooManyRanges
-  told_full q = ap or_too_many (told_is _ q)
+module _ (done : List Range) (room : ℕ) (x : Source) where
+  pub told_full : {rs : List Range} {w : Walk} → gives (full rs w) ≡ coverage_within done room x → or_too_many (coverage_within done room x) ≡ refusal TooManyRanges
+  told_full g = ap or_too_many (sym g)
 
-  pub told_refused : (e : Error) → k ≡ gathered.Refused e → or_too_many (coverage_within done room x) ≡ refusal e
-  told_refused e q = ap or_too_many (told_is _ q)
+  pub told_refused : (e : Error) → refusal e ≡ coverage_within done room x → or_too_many (coverage_within done room x) ≡ refusal e
+  told_refused e g = ap or_too_many (sym g)
 
-module _ (x : Source) (b : Bytes x) (k : Gathered) (bs es : List ℕ) (g : told_gathered k bs es ≡ coverage_within [] short x) where
-  pub short_all : {n : ℕ} → k ≡ gathered.All n → coverage_of x ≡ gives (firsts n bs es)
-  short_all q = coverage_goes_on x b short (omega arith) ∙ ap (goesOn x b short (omega arith)) (told_is [] short x k bs es g _ q)
+module _ (x : Source) where
+  pub short_all : {n : ℕ} {rs : List Range} → gives (all n rs) ≡ coverage_within [] short x → coverage_of x ≡ gives rs
+  short_all g = coverage_goes_on x short (omega arith) ∙ ap (goesOn x short (omega arith)) (sym g)
 
-  pub short_full : {w : Walk} → length bs ≡ short → k ≡ gathered.Full w → coverage_of x ≡ or_too_many (coverage_within (firsts short bs es) (limit - short) (list_from x w))
-  short_full {w} l q =
-      coverage_goes_on x b short (omega arith) ∙ ap (goesOn x b short (omega arith)) (told_is [] short x k bs es g _ q)
+  pub short_full : (bs es : List ℕ) {w : Walk} → length bs ≡ short → gives (full (firsts (length bs) bs es) w) ≡ coverage_within [] short x
+      → coverage_of x ≡ or_too_many (coverage_within (firsts short bs es) (limit - short) (list_from x w))
+  short_full bs es {w} l g =
+      coverage_goes_on x short (omega arith) ∙ ap (goesOn x short (omega arith)) (sym g)
       ∙ ap (λ (n : ℕ). or_too_many (coverage_within (firsts n bs es) (limit - short) (list_from x w))) l
 
-  pub short_refused : (e : Error) → k ≡ gathered.Refused e → coverage_of x ≡ refusal e
-  short_refused e q = coverage_goes_on x b short (omega arith) ∙ ap (goesOn x b short (omega arith)) (told_is [] short x k bs es g _ q)
+  pub short_refused : (e : Error) → refusal e ≡ coverage_within [] short x → coverage_of x ≡ refusal e
+  short_refused e g = coverage_goes_on x short (omega arith) ∙ ap (goesOn x short (omega arith)) (sym g)
 
 -- ---- the first places copied to longer arrays
-take_copied : (n : ℕ) (xs ys : List ℕ) → n ≤ length xs → n ≤ length ys → Copied xs ys 0 n → take n ys ≡ take n xs
-take_copied zero xs ys h k c = refl
-take_copied (suc n) [] ys h k c = absurd (omega arith)
-take_copied (suc n) (x ∷ xs) [] h k c = absurd (omega arith)
-take_copied (suc n) (x ∷ xs) (y ∷ ys) h k c =
-    ap₂ (λ (a : ℕ) (l : List ℕ). a ∷ l) (c 0 (omega arith) (omega arith)) (take_copied n xs ys (omega arith) (omega arith) (λ p i j. c (suc p) (omega arith) (omega arith)))
-
-pub firsts_copied : (n : ℕ) (bs es xs ys : List ℕ) → AtLeast n bs es → AtLeast n xs ys → Copied bs xs 0 n → Copied es ys 0 n → firsts n xs ys ≡ firsts n bs es
-firsts_copied n bs es xs ys h k c d =
-    take_paired n xs ys
-    ∙ ap₂ paired (take_copied n bs xs h.0 k.0 c) (take_copied n es ys h.1 k.1 d)
+pub firsts_copied : (n : ℕ) (bs es xs ys : List ℕ) → length bs ≡ n → length es ≡ n → firsts n (bs ++ xs) (es ++ ys) ≡ firsts n bs es
+firsts_copied n bs es xs ys h k =
+    take_paired n (bs ++ xs) (es ++ ys)
+    ∙ ap₂ paired (take_at bs xs n h ∙ sym (take_all n bs (omega arith))) (take_at es ys n k ∙ sym (take_all n es (omega arith)))
     ∙ sym (take_paired n bs es)
 
 -- how often a call calls itself

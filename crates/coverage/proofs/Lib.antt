@@ -3,6 +3,7 @@ pub mod Small
 pub mod SortLaws
 pub mod SpreadLaws
 pub mod CoveredLaws
+pub mod ProperLaws
 pub mod KeptLaws
 pub mod OutputLaws
 pub mod CallLaws

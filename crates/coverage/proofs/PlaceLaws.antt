@@ -1,48 +1,25 @@
 -- Ranges at the front of what a caller lends, and a coverage in two arrays written whole. Assumes nothing.
-use Rattle.std.proofs.Common.{◌≡◌, ℕ, suc, ◌+◌, ◌-◌, ◌<◌, ◌≤◌, leb, List, [], ◌++◌, length, get_or, take, drop, set, replicate, sym, refl, ap, ◌∙◌, ap₂, inr, ⊎_elim, append-nil, add-one, arith, length-set, drop_of_length-le, length-take-le, get_or-drop, get_or-take, take_at, get_or-append-add, ext_get_or, le-leb}
+use Rattle.std.proofs.Common.{◌≡◌, ℕ, suc, ◌+◌, ◌-◌, ◌<◌, ◌≤◌, leb, List, [], ◌++◌, length, take, drop, set, replicate, sym, refl, ap, ◌∙◌, ap₂, append-nil, add-one, arith, length-set, drop_of_length-le, length-take-le, take_at, le-leb}
 use mathlib.Core.Bool.{and-false}
-use lib.ListN.{get_or-append, length-map, length-replicate}
-use lib.Seq.{sets, sets-eq, length_front}
+use lib.ListN.{length-map, length-replicate}
+use lib.Seq.{sets, sets-eq}
 use borrow.Author.Tests.{lt-leb}
 use Rattle.section_bytes.specs.Read.{Result, gives, refused}
 use Rattle.section_bytes.specs.Error.{refusal}
 use Rattle.section_bytes.specs.declared.error.Error.{Error}
-use Rattle.section_bytes.specs.declared.error.Error.TheVariants.{TooManyRanges, NoSpace}
-use Rattle.section_bytes.proofs.Order.{lt_or_le}
+use Rattle.section_bytes.specs.declared.error.Error.TheVariants.{NoSpace}
+use Rattle.section_bytes.proofs.ReaderLaws.{is_refusal}
 use Rattle.coverage.specs.Ranges.{Range, limit, runs}
 use Rattle.coverage.specs.Covered.{Source, yielded_of, coverage_of}
-use Rattle.coverage.specs.Kept.{firsts, begins, ends, padded, kept_as}
-use Rattle.coverage.specs.Sorted.{Sized, AtLeast, Copied, Around}
-use Rattle.coverage.specs.Told.{made, Placed, placed, told_count, placing, putting, by_count}
-use Rattle.coverage.specs.declared.collect.Collected.{Collected}
-use Rattle.coverage.specs.declared.collect.Collected.TheVariants as collected
+use Rattle.coverage.specs.Kept.{firsts, begins, ends, counted, padded, kept_as}
+use Rattle.coverage.specs.Sorted.{Sized, AtLeast}
+use Rattle.coverage.specs.Told.{answer, made, Placed, placed, placing, putting}
 use Rattle.coverage.proofs.RangeLaws.{runs_length}
 use Rattle.coverage.proofs.CoveredLaws.{mapped, Given, yielded_few}
 use Rattle.coverage.proofs.SortLaws.{length_first}
 use Rattle.coverage.proofs.KeptLaws.{take_paired, begins_paired, ends_paired}
 
 -- ---- ranges at the front of what a caller lends
-copied_front : (n : ℕ) (from to : List ℕ) {to' : List ℕ} → n ≤ length from → n ≤ length to
-    → Copied from to' 0 n × (length to' ≡ length to) × Around to to' 0 n → to' ≡ take n from ++ drop n to
-copied_front n from to {to'} h k c =
-    let l = length-take-le n from h in
-    ext_get_or 0 to' (take n from ++ drop n to) (c.1 ∙ sym (length_front to (take n from) n (l ∙ sym (length-take-le n to k)))) at_each
-  where
-    at_each : (i : ℕ) → i < length to' → get_or to' i 0 ≡ get_or (take n from ++ drop n to) i 0
-    at_each i u =
-        let l = length-take-le n from h in
-        ⊎_elim
-        (λ (a : i < n). c.0 i (omega arith) a ∙ sym (get_or-append (take n from) (drop n to) 0 i (omega (arith, l, a)) ∙ get_or-take n from i 0 a))
-        (λ b.
-        let e : i ≡ length (take n from) + (i - n) = omega (arith, l, b) in
-        let f : n + (i - n) ≡ i = omega (arith, b) in
-        c.2 i (inr b)
-        ∙ sym (ap (λ (m : ℕ). get_or (take n from ++ drop n to) m 0) e
-        ∙ get_or-append-add (take n from) (drop n to) (i - n) 0
-        ∙ get_or-drop n to (i - n) 0
-        ∙ ap (λ (m : ℕ). get_or to m 0) f))
-        (lt_or_le i n)
-
 module _ (bs es : List ℕ) (n : ℕ) (h : AtLeast n bs es) where
   counts : length (firsts n bs es) ≡ n
   counts = length_first bs es n h.0 h.1
@@ -66,12 +43,10 @@ module _ (bs es : List ℕ) (n : ℕ) (h : AtLeast n bs es) where
     front_short_ends k =
         rw (lt-leb (length (firsts n bs es)) (length ys) (omega (arith, counts, k)), and-false (leb (length (firsts n bs es)) (length xs)))
 
-    pub front_put : {us zs : List ℕ} → n ≤ length xs → n ≤ length ys → Copied bs us 0 n × (length us ≡ length xs) × Around xs us 0 n
-        → Copied es zs 0 n × (length zs ≡ length ys) × Around ys zs 0 n → placed (gives n) us zs ≡ putting (gives (firsts n bs es)) xs ys
+    pub front_put : {us zs : List ℕ} → n ≤ length xs → n ≤ length ys → us ≡ take n bs → zs ≡ take n es
+        → placed (gives n) (us ++ drop n xs) (zs ++ drop n ys) ≡ putting (gives (firsts n bs es)) xs ys
     unfolding putting
-    front_put k l p q =
-        rw (counts, le-leb n (length xs) k, le-leb n (length ys) l, first_begins, first_ends)
-        (ap₂ (placed (gives n)) (copied_front n bs xs h.0 k p) (copied_front n es ys h.1 l q))
+    front_put k l p q = rw (p, q, counts, le-leb n (length xs) k, le-leb n (length ys) l, first_begins, first_ends)
 
 module _ (c : Result (List Range)) (xs ys : List ℕ) where
   pub front_got : {p : Placed} {rs : List Range} → c ≡ gives rs → p ≡ putting (gives rs) xs ys → p ≡ putting c xs ys
@@ -169,28 +144,39 @@ module _ (bs es : List ℕ) (s : Sized limit bs es) where
       absurd (omega arith)
   put_lost (refused m vs) f r e = e
 
-  module _ (x : Source) {k : Collected} {xs ys : List ℕ} (e : placed (told_count k) xs ys ≡ putting (coverage_of x) bs es) where
-    told_as : (j : Collected) → k ≡ j → placed (told_count j) xs ys ≡ putting (coverage_of x) bs es
-    told_as j q = ap (λ (k : Collected). placed (told_count k) xs ys) (sym q) ∙ e
-
-    module _ {n : ℕ} (q : k ≡ collected.Got n) where
+  module _ (x : Source) {xs ys : List ℕ} where
+    module _ {n : ℕ} (e : placed (gives n) xs ys ≡ putting (coverage_of x) bs es) where
       pub whole_few : n ≤ limit
-      whole_few = put_few (coverage_of x) (coverage_few x) (told_as _ q)
+      whole_few = put_few (coverage_of x) (coverage_few x) e
 
       pub whole_got : {us zs : List ℕ} → us ≡ padded (take n xs) → zs ≡ padded (take n ys) → placed (gives n) us zs ≡ placing (coverage_of x) bs es
-      whole_got p r = put_whole (coverage_of x) (coverage_few x) (told_as _ q) p r
+      whole_got p q = put_whole (coverage_of x) (coverage_few x) e p q
 
-    pub whole_full : k ≡ collected.Full → placed (refusal TooManyRanges) xs ys ≡ placing (coverage_of x) bs es
-    whole_full q = put_lost (coverage_of x) (coverage_few x) TooManyRanges (told_as _ q)
-
-    pub whole_refused : (r : Error) → k ≡ collected.Refused r → placed (refusal r) xs ys ≡ placing (coverage_of x) bs es
-    whole_refused r q = put_lost (coverage_of x) (coverage_few x) r (told_as _ q)
+    pub whole_refused : (r : Error) → placed (refusal r) xs ys ≡ putting (coverage_of x) bs es → placed (refusal r) xs ys ≡ placing (coverage_of x) bs es
+    whole_refused r e = put_lost (coverage_of x) (coverage_few x) r e
 
 -- a coverage by value of what was put into two arrays of zeros
-pub placed_made : (c : Result (List Range)) {r : Result ℕ} {xs ys : List ℕ} → placed r xs ys ≡ placing c (replicate limit 0) (replicate limit 0) → by_count r xs ys ≡ made c
-unfolding kept_as padded
-placed_made (gives rs) e = ap (λ (p : Placed). by_count p.answer p.begins p.ends) e
-placed_made (refused n vs) e = ap (λ (p : Placed). by_count p.answer p.begins p.ends) e
+pub made_got : (c : Result (List Range)) {n : ℕ} {xs ys : List ℕ} → placed (gives n) xs ys ≡ placing c (replicate limit 0) (replicate limit 0) → answer (gives tt) (counted n xs ys) ≡ made c
+unfolding kept_as
+made_got (gives rs) {n} e =
+    let t : gives n ≡ gives (length rs) = ap (λ (p : Placed). p.answer) e in
+    let k : n ≡ length rs = cc in
+    ap (λ (p : Placed). answer (gives tt) (counted n p.begins p.ends)) e ∙ ap (λ (m : ℕ). answer (gives tt) (counted m (padded (begins rs)) (padded (ends rs)))) k
+made_got (refused m vs) {n} e =
+    let t : gives n ≡ refused m vs = ap (λ (p : Placed). p.answer) e in
+    let z : ◌≡◌ {A = ℕ} 0 1 = cc in
+    absurd (omega arith)
 
-pub placed_coverage : (x : Source) {r : Result ℕ} {xs ys : List ℕ} → placed r xs ys ≡ placing (coverage_of x) (replicate limit 0) (replicate limit 0) → by_count r xs ys ≡ made (coverage_of x)
-placed_coverage x e = placed_made (coverage_of x) e
+pub made_lost : (c : Result (List Range)) (r : Error) {xs ys : List ℕ} (us zs : List ℕ) → placed (refusal r) xs ys ≡ placing c us zs → answer (refusal r) (kept_as []) ≡ made c
+made_lost (gives rs) r us zs e =
+    let t : refusal r ≡ gives (length rs) = ap (λ (p : Placed). p.answer) e in
+    let z : ◌≡◌ {A = ℕ} 0 1 = cc in
+    absurd (omega arith)
+made_lost (refused m vs) r us zs e = ap (λ (p : Placed). answer (refused_in p.answer) (kept_as [])) e
+  where
+    refused_in : Result ℕ → Result Unit
+    refused_in (gives n) = gives tt
+    refused_in (refused n vs) = refused n vs
+
+-- for functions that hand on the refusal
+pub ruleset making = (made_lost, is_refusal)

@@ -1,5 +1,11 @@
 -- What a list covers, from its bytes alone: the ranges it yields from opening to its first end, and their runs.
-use Rattle.std.specs.Prelude.{ℕ, zero, suc, ◌<◌, Bool, true, false, List, [], ◌∷◌, length, slice_index}
+use Rattle.std.specs.Prelude.{ℕ, zero, suc, ◌<◌, Bool, List, [], ◌∷◌, length, slice_index, Some, None}
+use Rattle.std.specs.Borrow.{Bor}
+use Rattle.std.specs.declared.option.Option.{Option}
+use Rattle.section_bytes.specs.Common.{is_split}
+use Rattle.entries.specs.declared.Lists.{Lists}
+use Rattle.entries.specs.declared.Lists.TheVariants.{Ranges, Locations}
+use Rattle.coverage.specs.declared.Source as code
 use Rattle.section_bytes.specs.Read.{Result, gives, refused, and_then}
 use Rattle.section_bytes.specs.Error.{refusal}
 use Rattle.section_bytes.specs.declared.common.DebugAddrBase.{DebugAddrBase}
@@ -29,11 +35,14 @@ pub data Holds : Type 0 where
   range_list_by : List ℕ → Holds
   location_list : Bool → Holds
 
--- the same by three tests and a table; a range list is never split, and a location list has no table
-abbrev pub holding : Bool → Bool → Bool → List ℕ → Holds
-holding true split tabled kinds = location_list split
-holding false split true kinds = range_list_by kinds
-holding false split false kinds = range_list
+-- the same as the code has it
+abbrev pub ranges_held : Option (Bor (List ℕ)) → Holds
+ranges_held None = range_list
+ranges_held (Some t) = range_list_by t.now
+
+abbrev pub holding : Lists → Holds
+holding (Ranges kinds) = ranges_held kinds
+holding (Locations file) = location_list (is_split file)
 
 -- a list: its sections, offset, base address, address table and table base, version and size, byte order, and what it holds
 -- (docs/SCOPE.md, "Demand 3")
@@ -60,6 +69,10 @@ source holds encoding endian s offset base table tableBase =
       endian = endian;
       holds = holds;
     }
+
+-- a list as the code has it
+abbrev pub source_in : code.Source → Source
+source_in x = source (holding x.lists) x.unit.encoding x.unit.endian x.section.now x.offset x.base_address x.unit.debug_addr.now x.unit.debug_addr_base
 
 -- how a list's entries are read
 abbrev pub listing : Holds → Encoding → RunTimeEndian → List ℕ → Listing

@@ -1,7 +1,9 @@
 -- A list gathered in two lent arrays: all its ranges, or those that there is room for and where the others come from.
-use Rattle.std.specs.Prelude.{◌≡◌, ℕ, zero, suc, ◌+◌, ◌<◌, ◌≤◌, Bool, true, false, List, [], ◌∷◌, ◌++◌, length, nat_lt, slice_set}
+use Rattle.std.specs.Prelude.{◌≡◌, ℕ, zero, suc, ◌+◌, ◌<◌, ◌≤◌, Bool, true, false, List, [], ◌∷◌, ◌++◌, length, nat_lt, slice_set, Ok, Err}
+use Rattle.std.specs.declared.result.Result.{Result as Answer}
 use Rattle.section_bytes.specs.Read.{Result, gives, refused, and_then, pick}
 use Rattle.section_bytes.specs.Error.{refusal}
+use Rattle.section_bytes.specs.declared.error.Error.{Error}
 use Rattle.section_bytes.specs.declared.error.Error.TheVariants.{TooManyRanges}
 use Rattle.lists.specs.Uncounted.{uncounted}
 use Rattle.lists.specs.Walk.{item, Trace, over, handed}
@@ -70,7 +72,7 @@ or_too_many (gives (full rs w)) = refusal TooManyRanges
 or_too_many (refused n vs) = refused n vs
 
 -- what was gathered at the front of two arrays; where there is no room, at all their places
-abbrev pub told_gathered : Gathered → List ℕ → List ℕ → Result Within
-told_gathered (gathered.All n) bs es = gives (all n (firsts n bs es))
-told_gathered (gathered.Full w) bs es = gives (full (firsts (length bs) bs es) w)
-told_gathered (gathered.Refused e) bs es = refusal e
+abbrev pub told_gathered : Answer Gathered Error → List ℕ → List ℕ → Result Within
+told_gathered (Ok (gathered.All n)) bs es = gives (all n (firsts n bs es))
+told_gathered (Ok (gathered.Full w)) bs es = gives (full (firsts (length bs) bs es) w)
+told_gathered (Err e) bs es = refusal e

@@ -3,162 +3,137 @@
 // they were.
 ghost use Rattle.std.specs.Prelude.{◌≡◌, ◌-◌, ◌≤◌, [], length, take};
 ghost use Rattle.section_bytes.specs.Common.{is_split};
+ghost use Rattle.section_bytes.specs.Error.{told_value};
 ghost use Rattle.section_bytes.specs.Read.{gives};
 ghost use Rattle.section_bytes.specs.declared.common.Format.TheVariants.{Dwarf32};
 ghost use Rattle.coverage.specs.Ranges.{limit};
-ghost use Rattle.coverage.specs.Covered.{range_list, range_list_by, location_list, holding, source, coverage_of, read_back};
+ghost use Rattle.coverage.specs.Covered.{range_list, range_list_by, location_list, ranges_held, source, source_in, coverage_of, read_back};
 ghost use Rattle.coverage.specs.Kept.{firsts, padded};
-ghost use Rattle.coverage.specs.Gathered.{short, coverage_within, or_too_many};
+ghost use Rattle.coverage.specs.Gathered.{short, coverage_within, or_too_many, list_from};
 ghost use Rattle.coverage.specs.Sorted.{AtLeast};
-ghost use Rattle.coverage.specs.Told.{placed, told_count, placing, putting};
+ghost use Rattle.coverage.specs.Told.{placed, placing, putting};
 
-use super::collect::{Collected, Gathered, cover_long, cover_short};
-use super::{LIMIT, ListsOffset, SHORT};
+use super::collect::{Gathered, cover_long, cover_short};
+use super::{LIMIT, SHORT, Source};
+use entries::Lists;
+use lists::{Unit, Walk};
 use section_bytes::common::{
     DebugAddrBase, DwarfFileType, Encoding, Format, LocationListsOffset, RangeListsOffset,
 };
 use section_bytes::endianity::RunTimeEndian;
 use section_bytes::error::Error;
 
-// The first n ranges, put at the front of what a caller lends; where that is shorter, 11.
-#[tactic(auto, using(crate::proofs::PlaceLaws::front_short, crate::proofs::PlaceLaws::front_short_ends))]
-fn put_front(n: usize, bs: &[u64], es: &[u64], begins: &mut [u64], ends: &mut [u64]) -> Collected
-    requires { AtLeast n bs.now es.now }
-    ensures { placed (told_count result) begins.new ends.new ≡ putting (gives (firsts n bs.now es.now)) begins.old ends.old }
-{
-    if begins.len() < n {
-        return Collected::Refused(Error::NoSpace);
+impl<'a> Source<'a> {
+    // The range list at an offset, with the kind numbers of DWARF or of a table.
+    pub fn ranges(
+        section: &'a [u8],
+        unit: &Unit<'a>,
+        kinds: Option<&'a [u8]>,
+        offset: RangeListsOffset,
+        base_address: u64,
+    ) -> Source<'a>
+        ensures { let u = unit.now in source_in result ≡ source (ranges_held kinds.entry) u.encoding u.endian section.now offset.0 base_address u.debug_addr.now u.debug_addr_base }
+    {
+        Source {
+            section,
+            unit: *unit,
+            lists: Lists::Ranges(kinds),
+            offset: offset.0,
+            base_address,
+        }
     }
-    if ends.len() < n {
-        return Collected::Refused(Error::NoSpace);
+
+    // The location list at an offset, plain or split.
+    pub fn locations(
+        section: &'a [u8],
+        unit: &Unit<'a>,
+        file_type: DwarfFileType,
+        offset: LocationListsOffset,
+        base_address: u64,
+    ) -> Source<'a>
+        ensures { let u = unit.now in source_in result ≡ source (location_list (is_split file_type)) u.encoding u.endian section.now offset.0 base_address u.debug_addr.now u.debug_addr_base }
+    {
+        Source {
+            section,
+            unit: *unit,
+            lists: Lists::Locations(file_type),
+            offset: offset.0,
+            base_address,
+        }
     }
-    super::sort::copy(bs, begins, 0, n);
-    super::sort::copy(es, ends, 0, n);
-    Collected::Got(n)
+
+    // What comes from a walk on: a list that begins there.
+    pub fn from_walk(&self, walk: Walk) -> Source<'a>
+        ensures { source_in result ≡ list_from (source_in self.now) walk }
+    {
+        Source {
+            section: self.section,
+            unit: self.unit,
+            lists: self.lists,
+            offset: walk.at as u64,
+            base_address: walk.base_address,
+        }
+    }
 }
 
-// The runs of a list that yields more ranges than short arrays have room for: the ranges there, and those from an offset on.
+// The first n ranges, put at the front of what a caller lends; where that is shorter, 11.
+#[tactic(auto, using(crate::proofs::PlaceLaws::front_short, crate::proofs::PlaceLaws::front_short_ends))]
+fn put_front(
+    n: usize,
+    bs: &[u64],
+    es: &[u64],
+    begins: &mut [u64],
+    ends: &mut [u64],
+) -> Result<usize, Error>
+    requires { AtLeast n bs.now es.now }
+    ensures { placed (told_value result) begins.new ends.new ≡ putting (gives (firsts n bs.now es.now)) begins.old ends.old }
+{
+    if begins.len() < n {
+        return Err(Error::NoSpace);
+    }
+    if ends.len() < n {
+        return Err(Error::NoSpace);
+    }
+    begins[..n].copy_from_slice(&bs[..n]);
+    ends[..n].copy_from_slice(&es[..n]);
+    Ok(n)
+}
+
+// The runs of a list that yields more ranges than short arrays have room for: the ranges there, and those of the list that is left.
 // It calls itself once, so that it stays a call: its arrays would else be made room for wherever a list is covered.
 fn runs_long(
     again: bool,
-    section: &[u8],
-    debug_addr: &[u8],
-    debug_addr_base: DebugAddrBase,
-    offset: ListsOffset,
-    base_address: u64,
-    encoding: Encoding,
-    endian: RunTimeEndian,
-    locations: bool,
-    split: bool,
-    by_table: bool,
-    kinds: &[u8],
+    source: &Source,
     first_begins: &[u64; SHORT],
     first_ends: &[u64; SHORT],
     begins: &mut [u64],
     ends: &mut [u64],
-) -> Collected
-    ensures { placed (told_count result) begins.new ends.new ≡ putting (or_too_many (coverage_within (firsts short first_begins.now first_ends.now) (limit - short) (source (holding locations split by_table kinds.now) encoding endian section.now offset.0 base_address debug_addr.now debug_addr_base))) begins.old ends.old }
+) -> Result<usize, Error>
+    ensures { placed (told_value result) begins.new ends.new ≡ putting (or_too_many (coverage_within (firsts short first_begins.now first_ends.now) (limit - short) (source_in source.now))) begins.old ends.old }
 {
     if again {
-        return runs_long(
-            false,
-            section,
-            debug_addr,
-            debug_addr_base,
-            offset,
-            base_address,
-            encoding,
-            endian,
-            locations,
-            split,
-            by_table,
-            kinds,
-            first_begins,
-            first_ends,
-            begins,
-            ends,
-        );
+        return runs_long(false, source, first_begins, first_ends, begins, ends);
     }
     let mut bs = [0u64; LIMIT];
     let mut es = [0u64; LIMIT];
-    match cover_long(
-        section,
-        debug_addr,
-        debug_addr_base,
-        offset,
-        base_address,
-        encoding,
-        endian,
-        locations,
-        split,
-        by_table,
-        kinds,
-        first_begins,
-        first_ends,
-        &mut bs,
-        &mut es,
-    ) {
+    match cover_long(source, first_begins, first_ends, &mut bs, &mut es)? {
         Gathered::All(n) => put_front(n, &bs, &es, begins, ends),
-        Gathered::Full(_) => Collected::Full,
-        Gathered::Refused(e) => Collected::Refused(e),
+        Gathered::Full(_) => Err(Error::TooManyRanges),
     }
 }
 
-// The runs of the list at an offset, gathered in short arrays first.
-fn runs_list(
-    section: &[u8],
-    debug_addr: &[u8],
-    debug_addr_base: DebugAddrBase,
-    offset: ListsOffset,
-    base_address: u64,
-    encoding: Encoding,
-    endian: RunTimeEndian,
-    locations: bool,
-    split: bool,
-    by_table: bool,
-    kinds: &[u8],
-    begins: &mut [u64],
-    ends: &mut [u64],
-) -> Collected
-    ensures { placed (told_count result) begins.new ends.new ≡ putting (coverage_of (source (holding locations split by_table kinds.now) encoding endian section.now offset.0 base_address debug_addr.now debug_addr_base)) begins.old ends.old }
+// The runs of a list, gathered in short arrays first.
+fn runs_list(source: &Source, begins: &mut [u64], ends: &mut [u64]) -> Result<usize, Error>
+    ensures { placed (told_value result) begins.new ends.new ≡ putting (coverage_of (source_in source.now)) begins.old ends.old }
 {
     let mut bs = [0u64; SHORT];
     let mut es = [0u64; SHORT];
-    match cover_short(
-        section,
-        debug_addr,
-        debug_addr_base,
-        offset,
-        base_address,
-        encoding,
-        endian,
-        locations,
-        split,
-        by_table,
-        kinds,
-        &mut bs,
-        &mut es,
-    ) {
+    match cover_short(source, &mut bs, &mut es)? {
         Gathered::All(n) => put_front(n, &bs, &es, begins, ends),
-        Gathered::Full(walk) => runs_long(
-            true,
-            section,
-            debug_addr,
-            debug_addr_base,
-            ListsOffset(walk.at as u64),
-            walk.base_address,
-            encoding,
-            endian,
-            locations,
-            split,
-            by_table,
-            kinds,
-            &bs,
-            &es,
-            begins,
-            ends,
-        ),
-        Gathered::Refused(e) => Collected::Refused(e),
+        Gathered::Full(walk) => {
+            let rest = source.from_walk(walk);
+            runs_long(true, &rest, &bs, &es, begins, ends)
+        }
     }
 }
 
@@ -174,241 +149,114 @@ fn clear_past(n: usize, to: &mut [u64])
     }
 }
 
-// The coverage of the list at an offset, in two arrays written whole.
+// The coverage of a list, in two arrays written whole.
 fn place_list(
-    section: &[u8],
-    debug_addr: &[u8],
-    debug_addr_base: DebugAddrBase,
-    offset: ListsOffset,
-    base_address: u64,
-    encoding: Encoding,
-    endian: RunTimeEndian,
-    locations: bool,
-    split: bool,
-    by_table: bool,
-    kinds: &[u8],
+    source: &Source,
     begins: &mut [u64; LIMIT],
     ends: &mut [u64; LIMIT],
-) -> Collected
-    ensures { placed (told_count result) begins.new ends.new ≡ placing (coverage_of (source (holding locations split by_table kinds.now) encoding endian section.now offset.0 base_address debug_addr.now debug_addr_base)) begins.old ends.old }
+) -> Result<usize, Error>
+    ensures { placed (told_value result) begins.new ends.new ≡ placing (coverage_of (source_in source.now)) begins.old ends.old }
 {
-    match runs_list(
-        section,
-        debug_addr,
-        debug_addr_base,
-        offset,
-        base_address,
-        encoding,
-        endian,
-        locations,
-        split,
-        by_table,
-        kinds,
-        begins,
-        ends,
-    ) {
-        Collected::Got(n) => {
-            clear_past(n, begins);
-            clear_past(n, ends);
-            Collected::Got(n)
-        }
-        Collected::Full => Collected::Full,
-        Collected::Refused(e) => Collected::Refused(e),
-    }
+    let n = runs_list(source, begins, ends)?;
+    clear_past(n, begins);
+    clear_past(n, ends);
+    Ok(n)
 }
 
 // The ranges of the coverage of the range list at an offset, at the front of two slices, and how many they are: the refusals of
 // opening, then the first of a walk's refusal and 10, then 11.
-pub fn runs_of_ranges(
-    section: &[u8],
-    debug_addr: &[u8],
-    debug_addr_base: DebugAddrBase,
+pub fn runs_of_ranges<'a>(
+    section: &'a [u8],
+    unit: &Unit<'a>,
     offset: RangeListsOffset,
     base_address: u64,
-    encoding: Encoding,
-    endian: RunTimeEndian,
     begins: &mut [u64],
     ends: &mut [u64],
-) -> Collected
-    ensures { placed (told_count result) begins.new ends.new ≡ putting (coverage_of (source range_list encoding endian section.now offset.0 base_address debug_addr.now debug_addr_base)) begins.old ends.old }
+) -> Result<usize, Error>
+    ensures { let u = unit.now in placed (told_value result) begins.new ends.new ≡ putting (coverage_of (source range_list u.encoding u.endian section.now offset.0 base_address u.debug_addr.now u.debug_addr_base)) begins.old ends.old }
 {
-    runs_list(
-        section,
-        debug_addr,
-        debug_addr_base,
-        ListsOffset(offset.0),
-        base_address,
-        encoding,
-        endian,
-        false,
-        false,
-        false,
-        section,
-        begins,
-        ends,
-    )
+    let source = Source::ranges(section, unit, None, offset, base_address);
+    runs_list(&source, begins, ends)
 }
 
 // The same by a table of kind numbers, which bare pairs have no use for.
 pub fn runs_of_ranges_by(
     section: &[u8],
-    debug_addr: &[u8],
-    debug_addr_base: DebugAddrBase,
+    unit: &Unit,
     offset: RangeListsOffset,
     base_address: u64,
-    encoding: Encoding,
-    endian: RunTimeEndian,
     kinds: &[u8],
     begins: &mut [u64],
     ends: &mut [u64],
-) -> Collected
-    ensures { placed (told_count result) begins.new ends.new ≡ putting (coverage_of (source (range_list_by kinds.now) encoding endian section.now offset.0 base_address debug_addr.now debug_addr_base)) begins.old ends.old }
+) -> Result<usize, Error>
+    ensures { let u = unit.now in placed (told_value result) begins.new ends.new ≡ putting (coverage_of (source (range_list_by kinds.now) u.encoding u.endian section.now offset.0 base_address u.debug_addr.now u.debug_addr_base)) begins.old ends.old }
 {
-    runs_list(
-        section,
-        debug_addr,
-        debug_addr_base,
-        ListsOffset(offset.0),
-        base_address,
-        encoding,
-        endian,
-        false,
-        false,
-        true,
-        kinds,
-        begins,
-        ends,
-    )
+    let source = Source::ranges(section, unit, Some(kinds), offset, base_address);
+    runs_list(&source, begins, ends)
 }
 
 // Those of the location list at an offset, plain or split.
 pub fn runs_of_locations(
     section: &[u8],
-    debug_addr: &[u8],
-    debug_addr_base: DebugAddrBase,
+    unit: &Unit,
     offset: LocationListsOffset,
     base_address: u64,
-    encoding: Encoding,
-    endian: RunTimeEndian,
     file_type: DwarfFileType,
     begins: &mut [u64],
     ends: &mut [u64],
-) -> Collected
-    ensures { placed (told_count result) begins.new ends.new ≡ putting (coverage_of (source (location_list (is_split file_type)) encoding endian section.now offset.0 base_address debug_addr.now debug_addr_base)) begins.old ends.old }
+) -> Result<usize, Error>
+    ensures { let u = unit.now in placed (told_value result) begins.new ends.new ≡ putting (coverage_of (source (location_list (is_split file_type)) u.encoding u.endian section.now offset.0 base_address u.debug_addr.now u.debug_addr_base)) begins.old ends.old }
 {
-    let split = file_type.is_split();
-    runs_list(
-        section,
-        debug_addr,
-        debug_addr_base,
-        ListsOffset(offset.0),
-        base_address,
-        encoding,
-        endian,
-        true,
-        split,
-        false,
-        section,
-        begins,
-        ends,
-    )
+    let source = Source::locations(section, unit, file_type, offset, base_address);
+    runs_list(&source, begins, ends)
 }
 
 // The coverage of the range list at an offset, and how many ranges it has: the refusals of opening, then the first of a walk's
 // refusal and 10.
-pub fn place_ranges(
-    section: &[u8],
-    debug_addr: &[u8],
-    debug_addr_base: DebugAddrBase,
+pub fn place_ranges<'a>(
+    section: &'a [u8],
+    unit: &Unit<'a>,
     offset: RangeListsOffset,
     base_address: u64,
-    encoding: Encoding,
-    endian: RunTimeEndian,
     begins: &mut [u64; LIMIT],
     ends: &mut [u64; LIMIT],
-) -> Collected
-    ensures { placed (told_count result) begins.new ends.new ≡ placing (coverage_of (source range_list encoding endian section.now offset.0 base_address debug_addr.now debug_addr_base)) begins.old ends.old }
+) -> Result<usize, Error>
+    ensures { let u = unit.now in placed (told_value result) begins.new ends.new ≡ placing (coverage_of (source range_list u.encoding u.endian section.now offset.0 base_address u.debug_addr.now u.debug_addr_base)) begins.old ends.old }
 {
-    place_list(
-        section,
-        debug_addr,
-        debug_addr_base,
-        ListsOffset(offset.0),
-        base_address,
-        encoding,
-        endian,
-        false,
-        false,
-        false,
-        section,
-        begins,
-        ends,
-    )
+    let source = Source::ranges(section, unit, None, offset, base_address);
+    place_list(&source, begins, ends)
 }
 
 // The same by a table of kind numbers, which bare pairs have no use for.
 pub fn place_ranges_by(
     section: &[u8],
-    debug_addr: &[u8],
-    debug_addr_base: DebugAddrBase,
+    unit: &Unit,
     offset: RangeListsOffset,
     base_address: u64,
-    encoding: Encoding,
-    endian: RunTimeEndian,
     kinds: &[u8],
     begins: &mut [u64; LIMIT],
     ends: &mut [u64; LIMIT],
-) -> Collected
-    ensures { placed (told_count result) begins.new ends.new ≡ placing (coverage_of (source (range_list_by kinds.now) encoding endian section.now offset.0 base_address debug_addr.now debug_addr_base)) begins.old ends.old }
+) -> Result<usize, Error>
+    ensures { let u = unit.now in placed (told_value result) begins.new ends.new ≡ placing (coverage_of (source (range_list_by kinds.now) u.encoding u.endian section.now offset.0 base_address u.debug_addr.now u.debug_addr_base)) begins.old ends.old }
 {
-    place_list(
-        section,
-        debug_addr,
-        debug_addr_base,
-        ListsOffset(offset.0),
-        base_address,
-        encoding,
-        endian,
-        false,
-        false,
-        true,
-        kinds,
-        begins,
-        ends,
-    )
+    let source = Source::ranges(section, unit, Some(kinds), offset, base_address);
+    place_list(&source, begins, ends)
 }
 
 // That of the location list at an offset, plain or split.
 pub fn place_locations(
     section: &[u8],
-    debug_addr: &[u8],
-    debug_addr_base: DebugAddrBase,
+    unit: &Unit,
     offset: LocationListsOffset,
     base_address: u64,
-    encoding: Encoding,
-    endian: RunTimeEndian,
     file_type: DwarfFileType,
     begins: &mut [u64; LIMIT],
     ends: &mut [u64; LIMIT],
-) -> Collected
-    ensures { placed (told_count result) begins.new ends.new ≡ placing (coverage_of (source (location_list (is_split file_type)) encoding endian section.now offset.0 base_address debug_addr.now debug_addr_base)) begins.old ends.old }
+) -> Result<usize, Error>
+    ensures { let u = unit.now in placed (told_value result) begins.new ends.new ≡ placing (coverage_of (source (location_list (is_split file_type)) u.encoding u.endian section.now offset.0 base_address u.debug_addr.now u.debug_addr_base)) begins.old ends.old }
 {
-    let split = file_type.is_split();
-    place_list(
-        section,
-        debug_addr,
-        debug_addr_base,
-        ListsOffset(offset.0),
-        base_address,
-        encoding,
-        endian,
-        true,
-        split,
-        false,
-        section,
-        begins,
-        ends,
-    )
+    let source = Source::locations(section, unit, file_type, offset, base_address);
+    place_list(&source, begins, ends)
 }
 
 // That of a canonical list, walked as a section of its own.
@@ -416,26 +264,19 @@ pub fn place_canonical(
     bytes: &[u8],
     begins: &mut [u64; LIMIT],
     ends: &mut [u64; LIMIT],
-) -> Collected
-    ensures { placed (told_count result) begins.new ends.new ≡ placing (coverage_of (read_back Dwarf32 bytes.now 0 [] (record { 0 = 0 }))) begins.old ends.old }
+) -> Result<usize, Error>
+    ensures { placed (told_value result) begins.new ends.new ≡ placing (coverage_of (read_back Dwarf32 bytes.now 0 [] (record { 0 = 0 }))) begins.old ends.old }
 {
-    place_list(
-        bytes,
-        &bytes[..0],
-        DebugAddrBase(0),
-        ListsOffset(0),
-        0,
-        Encoding {
+    let unit = Unit {
+        encoding: Encoding {
             address_size: 8,
             format: Format::Dwarf32,
             version: 5,
         },
-        RunTimeEndian::Little,
-        false,
-        false,
-        false,
-        bytes,
-        begins,
-        ends,
-    )
+        endian: RunTimeEndian::Little,
+        debug_addr: &bytes[..0],
+        debug_addr_base: DebugAddrBase(0),
+    };
+    let source = Source::ranges(bytes, &unit, None, RangeListsOffset(0), 0);
+    place_list(&source, begins, ends)
 }

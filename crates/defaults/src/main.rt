@@ -3,9 +3,7 @@
 // number of a refusal, behind which its value stands, 0 where it has none.
 #![tactic(auto)]
 
-use lists::loclists::LocationAnswer;
-use lists::{LocationListEntry, Walk};
-use lookups::LocationFound;
+use lists::{LocationListEntry, Unit, Walk};
 use section_bytes::common::{DebugAddrBase, DwarfFileType, Encoding, Format, LocationListsOffset};
 use section_bytes::endianity::RunTimeEndian;
 use section_bytes::error::Error;
@@ -15,74 +13,52 @@ fn say(rt: &impl Print, text: &[u8]) -> io::Result<()> {
     rt.write_all(text)
 }
 
-fn put(rt: &impl Print, name: &[u8], x: u64) -> io::Result<()> {
-    say(rt, name)?;
-    print!(rt; "{x:x}")
+fn refused(rt: &impl Print, e: Error) -> io::Result<()> {
+    print!(rt; " refused {} {:x}", e.number(), e.value())
 }
 
-fn wide(x: u8) -> u64 {
-    x as u64
-}
-
-fn print_bytes(rt: &impl Print, bytes: &[u8]) -> io::Result<()> {
-    for x in bytes {
-        say(rt, b" ")?;
-        print!(rt; "{:02x}", wide(*x))?;
+fn location(rt: &impl Print, list: &[u8], x: LocationListEntry) -> io::Result<()> {
+    let data = x.data;
+    print!(rt;
+        " {:x} {:x}, expression at {:x}:",
+        x.range.begin, x.range.end, data.offset
+    )?;
+    for &byte in lists::loclists::expression(list, data) {
+        print!(rt; " {byte:02x}")?;
     }
     Ok(())
 }
 
-fn refused(rt: &impl Print, e: Error) -> io::Result<()> {
-    say(rt, b" refused ")?;
-    print!(rt; "{}", e.number())?;
-    put(rt, b" ", e.value())
-}
-
-fn location(rt: &impl Print, list: &[u8], x: LocationListEntry) -> io::Result<()> {
-    put(rt, b" ", x.range.begin)?;
-    put(rt, b" ", x.range.end)?;
-    let data = x.data;
-    put(rt, b", expression at ", data.offset as u64)?;
-    say(rt, b":")?;
-    print_bytes(rt, lists::loclists::expression(list, data))
-}
-
-fn encoding(version: u16, address_size: u8) -> Encoding {
-    Encoding {
-        address_size,
-        format: Format::Dwarf32,
-        version,
+// The table has two addresses, 10 and 20, behind its header.
+fn unit(version: u16, address_size: u8, endian: RunTimeEndian) -> Unit<'static> {
+    Unit {
+        encoding: Encoding {
+            address_size,
+            format: Format::Dwarf32,
+            version,
+        },
+        endian,
+        debug_addr: b"\x0c\0\0\0\x05\0\x04\0\x10\0\0\0\x20\0\0\0",
+        debug_addr_base: DebugAddrBase(8),
     }
 }
 
-// The table has two addresses, 10 and 20, behind its header.
 fn look_up(
     rt: &impl Print,
     name: &[u8],
     list: &[u8],
     offset: u64,
-    p: Encoding,
-    endian: RunTimeEndian,
+    unit: &Unit,
     file_type: DwarfFileType,
     address: u64,
 ) -> io::Result<()> {
     say(rt, name)?;
-    put(rt, b", ", address)?;
-    say(rt, b":")?;
-    match lookups::lookup_location(
-        list,
-        b"\x0c\0\0\0\x05\0\x04\0\x10\0\0\0\x20\0\0\0",
-        DebugAddrBase(8),
-        LocationListsOffset(offset),
-        0,
-        p,
-        endian,
-        file_type,
-        address,
-    ) {
-        LocationFound::Found(x) => location(rt, list, x)?,
-        LocationFound::NotThere => say(rt, b" not there")?,
-        LocationFound::Refused(e) => refused(rt, e)?,
+    print!(rt; ", {address:x}:")?;
+    let offset = LocationListsOffset(offset);
+    match lookups::lookup_location(list, unit, offset, 0, file_type, address) {
+        Ok(Some(x)) => location(rt, list, x)?,
+        Ok(None) => say(rt, b" not there")?,
+        Err(e) => refused(rt, e)?,
     }
     say(rt, b"\n")
 }
@@ -91,18 +67,13 @@ fn each(
     rt: &impl Print,
     name: &[u8],
     list: &[u8],
-    p: Encoding,
-    endian: RunTimeEndian,
+    unit: &Unit,
     file_type: DwarfFileType,
 ) -> io::Result<()> {
-    look_up(rt, name, list, 0, p, endian, file_type, 0)?;
-    look_up(rt, name, list, 0, p, endian, file_type, 5)?;
-    look_up(rt, name, list, 0, p, endian, file_type, 0xf)?;
-    look_up(rt, name, list, 0, p, endian, file_type, 0x10)?;
-    look_up(rt, name, list, 0, p, endian, file_type, 0x1f)?;
-    look_up(rt, name, list, 0, p, endian, file_type, 0x20)?;
-    look_up(rt, name, list, 0, p, endian, file_type, 0xfffffffffffffffe)?;
-    look_up(rt, name, list, 0, p, endian, file_type, 0xffffffffffffffff)
+    for address in [0, 5, 0xf, 0x10, 0x1f, 0x20, u64::MAX - 1, u64::MAX] {
+        look_up(rt, name, list, 0, unit, file_type, address)?;
+    }
+    Ok(())
 }
 
 fn sized(
@@ -112,15 +83,8 @@ fn sized(
     address_size: u8,
     list: &[u8],
 ) -> io::Result<()> {
-    let p = encoding(version, address_size);
-    each(
-        rt,
-        name,
-        list,
-        p,
-        RunTimeEndian::Little,
-        DwarfFileType::Main,
-    )
+    let unit = unit(version, address_size, RunTimeEndian::Little);
+    each(rt, name, list, &unit, DwarfFileType::Main)
 }
 
 fn plain(rt: &impl Print, name: &[u8], list: &[u8]) -> io::Result<()> {
@@ -128,8 +92,8 @@ fn plain(rt: &impl Print, name: &[u8], list: &[u8]) -> io::Result<()> {
 }
 
 fn split(rt: &impl Print, name: &[u8], version: u16, list: &[u8]) -> io::Result<()> {
-    let p = encoding(version, 4);
-    each(rt, name, list, p, RunTimeEndian::Little, DwarfFileType::Dwo)
+    let unit = unit(version, 4, RunTimeEndian::Little);
+    each(rt, name, list, &unit, DwarfFileType::Dwo)
 }
 
 fn big(
@@ -139,8 +103,8 @@ fn big(
     file_type: DwarfFileType,
     list: &[u8],
 ) -> io::Result<()> {
-    let p = encoding(version, 4);
-    each(rt, name, list, p, RunTimeEndian::Big, file_type)
+    let unit = unit(version, 4, RunTimeEndian::Big);
+    each(rt, name, list, &unit, file_type)
 }
 
 fn examples(rt: &impl Print) -> io::Result<()> {
@@ -244,18 +208,8 @@ fn splits(rt: &impl Print) -> io::Result<()> {
 }
 
 fn from(rt: &impl Print, name: &[u8], offset: u64, address_size: u8) -> io::Result<()> {
-    let p = encoding(5, address_size);
-    let little = RunTimeEndian::Little;
-    look_up(
-        rt,
-        name,
-        b"\x05\0",
-        offset,
-        p,
-        little,
-        DwarfFileType::Main,
-        5,
-    )
+    let unit = unit(5, address_size, RunTimeEndian::Little);
+    look_up(rt, name, b"\x05\0", offset, &unit, DwarfFileType::Main, 5)
 }
 
 // At the section's end there is a list without entries, and past it none.
@@ -265,45 +219,35 @@ fn openings(rt: &impl Print) -> io::Result<()> {
     from(rt, b"size 6", 3, 6)
 }
 
-fn step(rt: &impl Print, list: &[u8], before: Walk) -> io::Result<Walk> {
-    match lists::loclists::next(
-        list,
-        b"",
-        DebugAddrBase(0),
-        before,
-        encoding(5, 4),
-        RunTimeEndian::Little,
-        DwarfFileType::Main,
-    ) {
-        LocationAnswer::Location(x, after) => {
-            location(rt, list, x)?;
-            say(rt, b";")?;
-            Ok(after)
-        }
-        LocationAnswer::End(after) => {
-            say(rt, b" end\n")?;
-            Ok(after)
-        }
-        LocationAnswer::Refused(e, after) => {
-            refused(rt, e)?;
-            say(rt, b"\n")?;
-            Ok(after)
-        }
-    }
-}
-
-// Each entry at its place.
+// Each entry at its place. No table of addresses is needed.
 fn walk(rt: &impl Print, name: &[u8], list: &[u8]) -> io::Result<()> {
     say(rt, name)?;
     say(rt, b":")?;
-    let start = Walk {
+    let unit = Unit {
+        debug_addr: b"",
+        debug_addr_base: DebugAddrBase(0),
+        ..unit(5, 4, RunTimeEndian::Little)
+    };
+    let mut walk = Walk {
         at: 0,
         base_address: 0,
         entries: 0,
     };
-    let first = step(rt, list, start)?;
-    let second = step(rt, list, first)?;
-    step(rt, list, second)?;
+    for _ in 0..3 {
+        let (answer, after) = lists::loclists::next(list, &unit, walk, DwarfFileType::Main);
+        match answer {
+            Ok(Some(x)) => {
+                location(rt, list, x)?;
+                say(rt, b";")?;
+            }
+            Ok(None) => say(rt, b" end\n")?,
+            Err(e) => {
+                refused(rt, e)?;
+                say(rt, b"\n")?;
+            }
+        }
+        walk = after;
+    }
     Ok(())
 }
 

@@ -1,43 +1,19 @@
 -- The raw entry at a place, a step of the reader at a time. Assumes nothing.
-use mathlib.Core.Path.{◌≡◌, sym, ap, ◌∙◌, fun_ext}
-use mathlib.Core.Bool.{Bool, true, false}
+use mathlib.Core.Path.{◌≡◌}
 use mathlib.Core.List.{List, [], ◌∷◌}
 use Prim.Native.Nat.{ℕ, ◌-◌, ◌≤◌, ◌<◌}
 use native.Mathlib.Omega.{arith}
 use lib.ListN.{length, take, drop, length-drop}
 use lib.Seq.{take_all}
-use borrow.Author.Tests.{le-leb, lt-leb, eq-eqb, ne_eqb}
+use borrow.Author.Tests.{le-leb, lt-leb, ne_eqb}
 use Rattle.section_bytes.specs.Read.{gives, got, Read}
-use Rattle.section_bytes.specs.Error.{told, refusal}
-use Rattle.section_bytes.specs.Reader.{uint, address as address_at}
-use Rattle.section_bytes.specs.Address.{ones}
+use Rattle.section_bytes.specs.Reader.{uint}
 use Rattle.section_bytes.specs.declared.common.Encoding.{Encoding}
 use Rattle.section_bytes.specs.declared.endianity.RunTimeEndian.{RunTimeEndian}
 use Rattle.section_bytes.specs.declared.endianity.RunTimeEndian.TheVariants.{Little}
-use Rattle.section_bytes.specs.declared.error.Error.{Error}
-use Rattle.section_bytes.specs.declared.Num.{Num}
-use Rattle.section_bytes.specs.declared.Num.TheVariants as num
-use Rattle.entries.specs.Forms.{Form, address, number, Takes, Raw, stop, entry, operands}
+use Rattle.entries.specs.Forms.{address, number, Raw, stop, operands}
 use Rattle.entries.specs.declared.RawRngListEntry.TheVariants.{StartLength}
-use Rattle.entries.specs.Kinds.{Kind, unknown, range_kinds, location_kinds, kind_of, of_kind, coded, is_end, of_pair, bare, coded_range_by, coded_range, bare_range, has_kinds, coded_location, bare_location, range_entry_by, location_entry, moved, raw_at}
-
--- the code's byte, and the kind that it stands for
-module _ {E : Type 0} (encoding : Encoding) (endian : RunTimeEndian) (start : ℕ) (s : List ℕ) (unknownEntry : ℕ → Error) (kinds : ℕ → Kind E) {r : Num} (h : told r ≡ uint Little 1 s 0) where
-  pub no_code : {x : Error} → r ≡ num.Refused x → coded encoding endian start s unknownEntry kinds ≡ refusal x
-  unfolding coded
-  no_code q = rw (← h, q)
-
-  pub code_is : {code c : ℕ} (k : ℕ) → r ≡ num.Got code c → code ≡ k → coded encoding endian start s unknownEntry kinds ≡ of_kind encoding endian start s unknownEntry k (kinds k) c
-  unfolding coded
-  code_is k q e = rw (← h, q, e)
-
-  pub number_is : {code c : ℕ} (k : Kind E) → r ≡ num.Got code c → kinds code ≡ k → coded encoding endian start s unknownEntry kinds ≡ of_kind encoding endian start s unknownEntry code k c
-  unfolding coded
-  number_is k q e = rw (← h, q, e)
-
-  pub code_unknown : {code c : ℕ} → r ≡ num.Got code c → kinds code ≡ unknown → coded encoding endian start s unknownEntry kinds ≡ refusal (unknownEntry code)
-  unfolding coded
-  code_unknown q e = rw (← h, q, e)
+use Rattle.entries.specs.Kinds.{unknown, range_kinds, location_kinds, kind_of, coded, coded_range_by, coded_range, bare_range, range_entry_by, moved, raw_at}
 
 -- an entry by its code: a start and a length, or the end mark
 module _ (encoding : Encoding) (endian : RunTimeEndian) (s : List ℕ) {c : ℕ} where
@@ -62,35 +38,6 @@ unfolding kind_of location_kinds
 no_location_kind k a b c d e f g h i =
     simp (ne_eqb k 0 a, ne_eqb k 1 b, ne_eqb k 2 c, ne_eqb k 3 d, ne_eqb k 4 e, ne_eqb k 5 f, ne_eqb k 6 g, ne_eqb k 7 h, ne_eqb k 8 i)
 
--- a bare pair: its begin, its end, and what it is
-module _ {E : Type 0} (encoding : Encoding) (endian : RunTimeEndian) (start : ℕ) (s : List ℕ) (base : ℕ → E) (fs : List Form) (pair : ℕ → ℕ → Takes fs E) {r : Num} (h : told r ≡ address_at endian encoding.address_size s 0) where
-  pub no_begin : {x : Error} → r ≡ num.Refused x → bare encoding endian start s base fs pair ≡ refusal x
-  unfolding bare
-  no_begin q = rw (← h, q)
-
-  module _ {b c : ℕ} (q : r ≡ num.Got b c) {r2 : Num} (h2 : told r2 ≡ address_at endian encoding.address_size s c) where
-    pub no_end : {x : Error} → r2 ≡ num.Refused x → bare encoding endian start s base fs pair ≡ refusal x
-    unfolding bare
-    no_end q2 = rw (← h, q) (rw (← h2, q2))
-
-    module _ {e d : ℕ} (q2 : r2 ≡ num.Got e d) where
-      pair_is : bare encoding endian start s base fs pair ≡ of_pair encoding endian start s base fs pair b e d
-      unfolding bare
-      pair_is = rw (← h, q) (rw (← h2, q2))
-
-      pub pair_end : is_end b e ≡ true → bare encoding endian start s base fs pair ≡ gives (got stop d)
-      unfolding of_pair
-      pair_end t = pair_is ∙ simp t
-
-      module _ (t : is_end b e ≡ false) {m : ℕ} (o : m ≡ ones encoding.address_size) where
-        pub pair_base : b ≡ m → bare encoding endian start s base fs pair ≡ gives (got (entry (base e)) d)
-        unfolding of_pair
-        pair_base u = pair_is ∙ simp (t, eq-eqb b (ones encoding.address_size) (u ∙ o))
-
-        pub pair_offsets : (b ≡ m → ⊥) → bare encoding endian start s base fs pair ≡ operands encoding endian start s fs (pair b e) d
-        unfolding of_pair
-        pair_offsets u = pair_is ∙ simp (t, ne_eqb b (ones encoding.address_size) (λ v. u (v ∙ sym o)))
-
 -- where the list's form is chosen; bare pairs have no codes
 module _ (encoding : Encoding) (endian : RunTimeEndian) (s : List ℕ) where
   pub range_coded : (number_of : ℕ → ℕ) → 5 ≤ encoding.version → range_entry_by number_of encoding endian s ≡ coded_range_by number_of encoding endian s
@@ -100,15 +47,6 @@ module _ (encoding : Encoding) (endian : RunTimeEndian) (s : List ℕ) where
   pub range_bare : (number_of : ℕ → ℕ) → encoding.version < 5 → range_entry_by number_of encoding endian s ≡ bare_range encoding endian s
   unfolding range_entry_by
   range_bare number_of v = simp (lt-leb _ _ v)
-
-  module _ (start : ℕ) (split : Bool) where
-    pub location_coded : has_kinds split encoding.version ≡ true → location_entry split encoding endian start s ≡ coded_location encoding endian start s
-    unfolding location_entry
-    location_coded e = simp e
-
-    pub location_bare : has_kinds split encoding.version ≡ false → location_entry split encoding endian start s ≡ bare_location encoding endian start s
-    unfolding location_entry
-    location_bare e = simp e
 
 -- where a place lies in the section, and where it does not
 module _ {E : Type 0} (read : List ℕ → Read (Raw E)) (s : List ℕ) (at : ℕ) where
@@ -123,8 +61,3 @@ module _ {E : Type 0} (read : List ℕ → Read (Raw E)) (s : List ℕ) (at : �
 -- the part from a place on, as the code hands it over
 pub part_is : (s : List ℕ) (at : ℕ) → take (length s - at) (drop at s) ≡ drop at s
 part_is s at = take_all (length s - at) (drop at s) (omega (arith, length-drop at s))
-
--- maps that agree on every code read alike: a loaded table that says what the fixed one says changes nothing
-pub same_kinds : {E : Type 0} (encoding : Encoding) (endian : RunTimeEndian) (start : ℕ) (s : List ℕ) (unknownEntry : ℕ → Error) (f g : ℕ → Kind E) → ((code : ℕ) → f code ≡ g code)
-    → coded encoding endian start s unknownEntry f ≡ coded encoding endian start s unknownEntry g
-same_kinds encoding endian start s unknownEntry f g h = ap (λ (k : ℕ → Kind _). coded encoding endian start s unknownEntry k) (fun_ext h)

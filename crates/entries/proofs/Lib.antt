@@ -5,7 +5,6 @@ pub mod EntryTook
 pub mod StepLaws
 pub mod MovedLaws
 pub mod EntryValues
-pub mod NumberLaws
 pub mod TableLaws
 pub mod LoadedLaws
 pub mod HeadLaws

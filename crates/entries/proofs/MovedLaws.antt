@@ -5,31 +5,21 @@ use mathlib.Core.List.{List}
 use Prim.Native.Nat.{ℕ, ◌+◌, ◌-◌, ◌≤◌, ◌<◌}
 use lib.ListN.{length, take, drop}
 use Rattle.section_bytes.specs.Read.{Result, gives, refused, got, Read}
-use Rattle.section_bytes.specs.Error.{told}
 use Rattle.section_bytes.specs.Reader.{address}
-use Rattle.section_bytes.specs.Leb128.{unsigned}
 use Rattle.section_bytes.specs.declared.endianity.RunTimeEndian.{RunTimeEndian}
-use Rattle.section_bytes.specs.declared.Num.{Num}
-use Rattle.section_bytes.specs.declared.Num.TheVariants as num
 use Rattle.section_bytes.proofs.Took.{Took}
 use Rattle.section_bytes.proofs.ReaderTook.{address_took}
-use Rattle.section_bytes.proofs.Inside.{unsigned_inside}
 use Rattle.entries.specs.Told.{Step, found, ended, step_of}
 use Rattle.entries.specs.Forms.{Raw, stop, entry}
 use Rattle.entries.specs.Kinds.{moved, raw_at}
-use Rattle.entries.proofs.KindLaws.{raw_there, part_is}
+use Rattle.entries.proofs.KindLaws.{raw_end, raw_there, part_is}
 
--- a number that was read ends in what it was read from
-module _ (s : List ℕ) (at : ℕ) {v c : ℕ} where
-  ends_within : (r q : Read ℕ) → Took (at + 1) at s s r q → gives (got v c) ≡ r → c ≤ length s
-  ends_within r q k h = let j = rw (← h) at k in j.1
-
-  module _ {r : Num} where
-    pub unsigned_within : told r ≡ unsigned s at → r ≡ num.Got v c → c ≤ length s
-    unsigned_within h q = unsigned_inside s at (sym (rw q at h))
-
-    pub address_within : (endian : RunTimeEndian) (size : ℕ) → told r ≡ address endian size s at → r ≡ num.Got v c → c ≤ length s
-    address_within endian size h q = ends_within (address endian size s at) (address endian size s at) (address_took s s size at endian) (rw q at h)
+-- an address that was read ends in what it was read from
+pub address_within : (s : List ℕ) (at : ℕ) {v c : ℕ} (endian : RunTimeEndian) (size : ℕ) → gives (got v c) ≡ address endian size s at → c ≤ length s
+address_within s at {v} {c} endian size h = ends (address endian size s at) (address endian size s at) h (address_took s s size at endian)
+  where
+    ends : (r q : Read ℕ) → gives (got v c) ≡ r → Took (at + 1) at s s r q → c ≤ length s
+    ends r q e k = let j = rw (← e) at k in j.1
 
 module _ {E : Type 0} where
   -- the answer to what was read in a part that starts at a place
@@ -40,6 +30,10 @@ module _ {E : Type 0} where
   pub raw_from : (read : List ℕ → Read (Raw E)) (s : List ℕ) (at : ℕ) → at < length s → {t : Result (Step E)}
       → t ≡ stepFrom at (read (take (length s - at) (drop at s))) → t ≡ step_of (raw_at read s at)
   raw_from read s at l h = rw part_is at h ∙ ap step_of (sym (raw_there read s at l))
+
+  -- past the section's end a list ends
+  pub raw_past : (read : List ℕ → Read (Raw E)) (s : List ℕ) (at : ℕ) → length s ≤ at → gives ended ≡ step_of (raw_at read s at)
+  raw_past read s at h = ap step_of (sym (raw_end read s at h))
 
   -- an answer's place counted in the section
   abbrev shifted : ℕ → Result (Step E) → Result (Step E)

@@ -4,12 +4,12 @@ use mathlib.Core.Path.{◌≡◌, refl, sym, ap, ◌∙◌, subst}
 use mathlib.Core.Bool.{Bool, true, false, ◌&&◌, ◌||◌}
 use mathlib.Core.List.{List, [], ◌∷◌}
 use mathlib.Core.Logic.{◌⊎◌, inl, inr, ⊎_elim}
-use Prim.Native.Nat.{ℕ, zero, suc, ◌+◌, ◌-◌, ◌≤◌, ◌<◌}
+use Prim.Native.Nat.{ℕ, zero, suc, ◌+◌, ◌-◌, ◌≤◌}
 use native.Mathlib.Nat.{add_comm, add_assoc, add-zero, zero-add}
 use native.Mathlib.Omega.{arith}
 use lib.Dec.{leb, ltb, eqb}
 use lib.ListN.{length, drop}
-use borrow.Author.Tests.{lt-ltb, le-ltb, le-leb, lt-leb}
+use borrow.Author.Tests.{lt-ltb, le-ltb}
 use Rattle.section_bytes.specs.Read.{Result, gives, refused, got, Read, read_then, pick}
 use Rattle.section_bytes.specs.Address.{ones}
 use Rattle.section_bytes.specs.Leb128.{unsigned}
@@ -28,7 +28,7 @@ use Rattle.section_bytes.proofs.PaddedLaws.{number_is, number_moves}
 use Rattle.section_bytes.proofs.Inside.{then_ind, split_inside}
 use Rattle.section_bytes.proofs.ReaderTook.{uint_moves, address_uint}
 use Rattle.section_bytes.proofs.Took.{pick_ind}
-use Rattle.section_bytes.proofs.WrittenLaws.{shortest, few_bytes}
+use Rattle.section_bytes.proofs.WrittenLaws.{shortest}
 use Rattle.entries.proofs.StepLaws.{step_found}
 use Rattle.entries.specs.Forms.{Form, index, number, rangeLength, address, expression, Value, Takes, Raw, stop, entry, versioned_length, block, operand, operands, is_unsigned}
 use Rattle.entries.specs.Kinds.{Kind, endOfList, unknown, kind, Row, row, kind_of, range_kinds, location_kinds, of_kind, coded, is_end, of_pair, bare, has_kinds, numbered, coded_range_by, coded_location, bare_range, bare_location, range_entry_by, location_entry, moved, raw_at}
@@ -401,16 +401,3 @@ noted_same (refused n vs) = refl
 pub step_padded : (l : Bool) (coding : Coding) (encoding : Encoding) (endian : RunTimeEndian) (s : List ℕ) (at : ℕ) {e : EntryIn l} {c : ℕ} → gives (found e c) ≡ step_of (read_in l coding encoding endian s at)
     → (at ≤ c) × (padded_in l coding encoding endian s at ≡ longer_in l encoding e (c - at))
 step_padded l coding encoding endian s at h = padded_longer l coding encoding endian s at (step_found (read_in l coding encoding endian s at) h)
-
--- a length, and how many bytes it can have
-pub length_unsigned : (version fixed n : ℕ) {r : ℕ} → 5 ≤ version → r ≡ length (unsigned_bytes n) → (r ≡ least_length (leb 5 version) fixed n) × (r ≤ 10 + fixed)
-length_unsigned version fixed n h e = (rw (le-leb 5 version h) e, omega (arith, few_bytes n e))
-
-pub length_fixed : (version fixed n : ℕ) → version < 5 → (fixed ≡ least_length (leb 5 version) fixed n) × (fixed ≤ 10 + fixed)
-length_fixed version fixed n h = (rw (lt-leb 5 version h), omega arith)
-
-pub expression_over : (least k x len : ℕ) → len < x → false ≡ ltb (least + (k + x)) len
-expression_over least k x len h = sym (le-ltb (least + (k + x)) len (omega arith))
-
-pub expression_behind : (least k x len : ℕ) {r : ℕ} → x ≤ len → r ≡ k → ltb (least + r) (len - x) ≡ ltb (least + (k + x)) len
-expression_behind least k x len h e = rw e (later x (least + k) (len - x) len (omega arith) ∙ ap (λ (n : ℕ). ltb n len) (add_assoc least k x))

@@ -1,20 +1,17 @@
 -- A table of kind numbers as the code looks through it, a byte at a time. Assumes nothing.
 use mathlib.Core.Path.{◌≡◌, refl, sym, ap, subst, ◌∙◌}
 use mathlib.Core.Logic.{◌⊎◌, inl, inr, ⊎_elim}
-use mathlib.Core.Bool.{Bool, true, false, not, ◌&&◌, or-true, and-false, and-eq-true_iff}
+use mathlib.Core.Bool.{Bool, true, false, ◌&&◌, or-true, and-false, and-eq-true_iff}
 use mathlib.Core.List.{List, ◌∷◌}
 use Prim.Native.Nat.{ℕ, zero, suc, ◌+◌, ◌≤◌, ◌<◌}
 use native.Mathlib.Numerals.{add-one}
 use native.Mathlib.Omega.{arith}
 use lib.Dec.{eqb, ltb, leb}
-use lib.ListN.{length, get_or, set, drop, replicate, length-set, get_or-replicate, drop_of_length-le}
+use lib.ListN.{length, get_or, set, drop, length-set, drop_of_length-le}
 use lib.Seq.{drop-cons, get_or-set_same, get_or-set_other}
 use borrow.Author.Tests.{leb-true, eqb-true, eqb-false, lt-ltb, le-ltb, le-leb, eq-eqb, ne_eqb}
 use Rattle.section_bytes.proofs.Order.{lt_or_le}
-use Rattle.section_bytes.specs.Read.{gives}
-use Rattle.section_bytes.specs.Error.{refusal}
-use Rattle.section_bytes.specs.declared.error.Error.TheVariants.{BadKindTable}
-use Rattle.entries.specs.Numbers.{are_numbers, codes_of, none_twice, is_table, loading}
+use Rattle.entries.specs.Numbers.{are_numbers, codes_of, none_twice}
 
 pub same_or_other : (a b : ℕ) → (a ≡ b) ⊎ (a ≡ b → ⊥)
 same_or_other a b = by (eqb a b) refl
@@ -93,103 +90,84 @@ twice_below t n k l h = by (none_twice n t) refl
 
 -- ---- the pass over a table
 
--- before a place: no byte there is wrong, and `codes` has how many codes there each kind has, none or one
-pub record Seen (t codes : List ℕ) (i : ℕ) : Type 0 where
+-- one where a kind has a code
+abbrev pub one_if : Bool → ℕ
+one_if true = 1
+one_if false = 0
+
+one_most : (b : Bool) → one_if b ≤ 1
+one_most true = omega arith
+one_most false = omega arith
+
+-- before a place: no byte there is wrong, and `coded` has which kinds have a code there, and none has two
+pub record Seen (t : List ℕ) (coded : List Bool) (i : ℕ) : Type 0 where
   pub within : i ≤ length t
-  pub room : length codes ≡ 8
+  pub room : length coded ≡ 8
   pub numbers : are_numbers t ≡ are_numbers (drop i t)
-  pub counts : (k : ℕ) → k < 8 → codes_of k t ≡ get_or codes k 0 + codes_of k (drop i t)
-  pub once : (k : ℕ) → k < 8 → get_or codes k 0 ≤ 1
+  pub counts : (k : ℕ) → k < 8 → codes_of k t ≡ one_if (get_or coded k false) + codes_of k (drop i t)
 
-pub seen_none : (t : List ℕ) → Seen t (replicate 8 0) 0
-seen_none t =
-    record {
-      within = omega arith;
-      room = refl;
-      numbers = refl;
-      counts = λ k l. omega (arith, get_or-replicate {A = ℕ} 8 k 0 0 l);
-      once = λ k l. omega (arith, get_or-replicate {A = ℕ} 8 k 0 0 l);
-    }
-
-module _ (t codes : List ℕ) (i : ℕ) (s : Seen t codes i) where
+module _ (t : List ℕ) (coded : List Bool) (i : ℕ) (s : Seen t coded i) where
   module _ (h : i < length t) where
     -- the code of a kind that had none
-    pub seen_kind : get_or t i 0 < 8 → get_or codes (get_or t i 0) 0 ≡ 0 → Seen t (set codes (get_or t i 0) 1) (i + 1)
+    pub seen_kind : get_or t i 0 < 8 → get_or coded (get_or t i 0) false ≡ false → Seen t (set coded (get_or t i 0) true) (i + 1)
     seen_kind l z =
         record {
           within = omega arith;
-          room = length-set codes (get_or t i 0) 1 ∙ s.room;
+          room = length-set coded (get_or t i 0) true ∙ s.room;
           numbers = s.numbers ∙ number_here t i h (inl l);
           counts = λ k m. ⊎_elim (λ e. same k e) (λ n. other k m n) (same_or_other (get_or t i 0) k);
-          once = λ k m. ⊎_elim (λ e. omega (arith, put k e)) (λ n. omega (arith, s.once k m, kept k n)) (same_or_other (get_or t i 0) k);
         }
       where
-        put : (k : ℕ) → get_or t i 0 ≡ k → get_or (set codes (get_or t i 0) 1) k 0 ≡ 1
+        put : (k : ℕ) → get_or t i 0 ≡ k → get_or (set coded (get_or t i 0) true) k false ≡ true
         put k e =
             let r = s.room in
-            ap (λ (j : ℕ). get_or (set codes (get_or t i 0) 1) j 0) (sym e) ∙ get_or-set_same codes (get_or t i 0) 1 0 (omega arith)
+            ap (λ (j : ℕ). get_or (set coded (get_or t i 0) true) j false) (sym e) ∙ get_or-set_same coded (get_or t i 0) true false (omega arith)
 
-        kept : (k : ℕ) → (get_or t i 0 ≡ k → ⊥) → get_or (set codes (get_or t i 0) 1) k 0 ≡ get_or codes k 0
-        kept k n = get_or-set_other codes (get_or t i 0) k 1 0 (λ e. n (sym e))
+        kept : (k : ℕ) → (get_or t i 0 ≡ k → ⊥) → get_or (set coded (get_or t i 0) true) k false ≡ get_or coded k false
+        kept k n = get_or-set_other coded (get_or t i 0) k true false (λ e. n (sym e))
 
-        same : (k : ℕ) → get_or t i 0 ≡ k → codes_of k t ≡ get_or (set codes (get_or t i 0) 1) k 0 + codes_of k (drop (i + 1) t)
+        same : (k : ℕ) → get_or t i 0 ≡ k → codes_of k t ≡ one_if (get_or (set coded (get_or t i 0) true) k false) + codes_of k (drop (i + 1) t)
         same k e =
-            let y = ap (λ (j : ℕ). get_or codes j 0) e in
-            omega (arith, s.counts k (omega arith), code_here t i h k e, put k e)
+            let y = ap (λ (j : ℕ). one_if (get_or coded j false)) e in
+            omega (arith, s.counts k (omega arith), code_here t i h k e, ap one_if (put k e), ap one_if z)
 
-        other : (k : ℕ) → k < 8 → (get_or t i 0 ≡ k → ⊥) → codes_of k t ≡ get_or (set codes (get_or t i 0) 1) k 0 + codes_of k (drop (i + 1) t)
-        other k m n = omega (arith, s.counts k m, other_here t i h k n, kept k n)
+        other : (k : ℕ) → k < 8 → (get_or t i 0 ≡ k → ⊥) → codes_of k t ≡ one_if (get_or (set coded (get_or t i 0) true) k false) + codes_of k (drop (i + 1) t)
+        other k m n = omega (arith, s.counts k m, other_here t i h k n, ap one_if (kept k n))
 
     -- a code without a kind
-    pub seen_other : get_or t i 0 ≡ 255 → Seen t codes (i + 1)
+    pub seen_other : get_or t i 0 ≡ 255 → Seen t coded (i + 1)
     seen_other e =
         record {
           within = omega arith;
           room = s.room;
           numbers = s.numbers ∙ number_here t i h (inr e);
           counts = λ k l. omega (arith, s.counts k l, other_here t i h k (λ q. omega arith));
-          once = s.once;
         }
 
     -- the second code of a kind
-    pub seen_twice : get_or t i 0 < 8 → (get_or codes (get_or t i 0) 0 ≡ 0 → ⊥) → (are_numbers t && none_twice 8 t && ltb 0 (codes_of 0 t)) ≡ false
-    seen_twice l n = simp (twice_below t 8 (get_or t i 0) l twice, and-false)
+    pub seen_twice : get_or t i 0 < 8 → get_or coded (get_or t i 0) false ≡ true → (are_numbers t && none_twice 8 t && ltb 0 (codes_of 0 t)) ≡ false
+    seen_twice l z = simp (twice_below t 8 (get_or t i 0) l twice, and-false)
       where
         twice : 1 < codes_of (get_or t i 0) t
-        twice = omega (arith, n, s.counts (get_or t i 0) l, code_here t i h (get_or t i 0) refl)
+        twice = omega (arith, ap one_if z, s.counts (get_or t i 0) l, code_here t i h (get_or t i 0) refl)
 
     -- no number of a kind
     pub seen_wrong : 8 ≤ get_or t i 0 → (get_or t i 0 ≡ 255 → ⊥) → (are_numbers t && none_twice 8 t && ltb 0 (codes_of 0 t)) ≡ false
     seen_wrong l n = simp (s.numbers ∙ none_here t i h l n)
 
   -- all bytes: whether kind 0 has a code is left
-  pub seen_all : length t ≤ i → (are_numbers t && none_twice 8 t && ltb 0 (codes_of 0 t)) ≡ not (eqb (get_or codes 0 0) 0)
-  seen_all h = simp (s.numbers ∙ numbers_end t i h, none_below t 8 below, count 0 first, positive (get_or codes 0 0))
+  pub seen_all : length t ≤ i → (are_numbers t && none_twice 8 t && ltb 0 (codes_of 0 t)) ≡ get_or coded 0 false
+  seen_all h = simp (s.numbers ∙ numbers_end t i h, none_below t 8 below, count 0 first, positive (get_or coded 0 false))
     where
-      count : (k : ℕ) → k < 8 → codes_of k t ≡ get_or codes k 0
+      count : (k : ℕ) → k < 8 → codes_of k t ≡ one_if (get_or coded k false)
       count k l = omega (arith, s.counts k l, codes_end t i h k)
 
       first : 0 < 8
       first = omega arith
 
       below : (k : ℕ) → k < 8 → codes_of k t ≤ 1
-      below k l = omega (arith, count k l, s.once k l)
+      below k l = omega (arith, count k l, one_most (get_or coded k false))
 
-      positive : (n : ℕ) → ltb 0 n ≡ not (eqb n 0)
-      positive zero = refl
-      positive (suc n) = simp (lt-ltb 0 (suc n) (omega arith), ne_eqb (suc n) 0 (λ e. omega arith))
-
--- the checks of loading in their order
-module _ (t : List ℕ) where
-  pub not_sized : (length t ≡ 256 → ⊥) → loading t ≡ refusal BadKindTable
-  unfolding loading is_table
-  not_sized n = simp (ne_eqb (length t) 256 n)
-
-  module _ (s : length t ≡ 256) where
-    pub not_lawful : (are_numbers t && none_twice 8 t && ltb 0 (codes_of 0 t)) ≡ false → loading t ≡ refusal BadKindTable
-    unfolding loading is_table
-    not_lawful e = simp (eq-eqb (length t) 256 s, e)
-
-    pub loaded : (are_numbers t && none_twice 8 t && ltb 0 (codes_of 0 t)) ≡ true → loading t ≡ gives tt
-    unfolding loading is_table
-    loaded e = simp (eq-eqb (length t) 256 s, e)
+      positive : (b : Bool) → ltb 0 (one_if b) ≡ b
+      positive true = refl
+      positive false = refl

@@ -1,13 +1,13 @@
 -- What stands before an entry's expression, and what the entry is by it, in both lists: for the contracts of private
 -- functions, and nothing above them. The kinds themselves are in Kinds.
-use Rattle.std.specs.Prelude.{ℕ, ◌≤◌, Bool, true, false, List, [], ◌∷◌}
+use Rattle.std.specs.Prelude.{ℕ, ◌≤◌, Bool, true, false, List, [], ◌∷◌, Ok, Err}
+use Rattle.std.specs.declared.result.Result.{Result as Answer}
+use Rattle.section_bytes.specs.declared.error.Error.{Error}
 use Rattle.section_bytes.specs.Read.{gives, refused, got, Read, read_then, pick}
 use Rattle.section_bytes.specs.Error.{refusal}
 use Rattle.section_bytes.specs.Leb128.{unsigned}
 use Rattle.section_bytes.specs.declared.common.Encoding.{Encoding}
 use Rattle.section_bytes.specs.declared.endianity.RunTimeEndian.{RunTimeEndian}
-use Rattle.section_bytes.specs.declared.Num.{Num}
-use Rattle.section_bytes.specs.declared.Num.TheVariants as num
 use Rattle.entries.specs.Forms.{Form, index, number, rangeLength, address, expression, addr_index, operand, Takes, Raw, stop, entry}
 use Rattle.entries.specs.Filled.{fill}
 use Rattle.entries.specs.Kinds.{Kind, endOfList, unknown, kind, kind_of, location_kinds, bare}
@@ -46,14 +46,14 @@ followed true encoding endian start s code a b c =
 followed false encoding endian start s code a b c = gives (got (entry (bounds (located_as code a b no_expression))) c)
 
 -- what is read at the front of a part, by the head that was read there; where the end stands is not told
-abbrev pub headed_in : (l : Bool) → Encoding → RunTimeEndian → ℕ → List ℕ → Head → Read (Raw (EntryIn l))
-headed_in l encoding endian start s (head.Bounds code a b c) = followed l encoding endian start s code a b c
-headed_in l encoding endian start s (head.BaseAddress a c) = gives (got (entry (entry_in l (loc.BaseAddress a))) c)
-headed_in l encoding endian start s (head.BaseAddressx i c) = gives (got (entry (entry_in l (loc.BaseAddressx (addr_index i)))) c)
-headed_in l encoding endian start s head.End = gives (got stop 0)
-headed_in l encoding endian start s (head.Refused e) = refusal e
+abbrev pub headed_in : (l : Bool) → Encoding → RunTimeEndian → ℕ → List ℕ → Answer Head Error → Read (Raw (EntryIn l))
+headed_in l encoding endian start s (Ok (head.Bounds code a b c)) = followed l encoding endian start s code a b c
+headed_in l encoding endian start s (Ok (head.BaseAddress a c)) = gives (got (entry (entry_in l (loc.BaseAddress a))) c)
+headed_in l encoding endian start s (Ok (head.BaseAddressx i c)) = gives (got (entry (entry_in l (loc.BaseAddressx (addr_index i)))) c)
+headed_in l encoding endian start s (Ok head.End) = gives (got stop 0)
+headed_in l encoding endian start s (Err e) = refusal e
 
-abbrev pub headed : Encoding → RunTimeEndian → ℕ → List ℕ → Head → Read (Raw RawLocListEntry)
+abbrev pub headed : Encoding → RunTimeEndian → ℕ → List ℕ → Answer Head Error → Read (Raw RawLocListEntry)
 headed encoding endian start s r = headed_in true encoding endian start s r
 
 -- a bare pair, with what follows it
@@ -77,14 +77,9 @@ Within len (refused n vs) = Unit
 -- two LEB128 numbers after a code
 abbrev pub number_pair : Encoding → RunTimeEndian → ℕ → List ℕ → ℕ → ℕ → Read (Raw RawLocListEntry)
 number_pair encoding endian start s code at =
-    read_then (unsigned s at) (λ a c. read_then (unsigned s c) (λ b d. headed encoding endian start s (head.Bounds code a b d)))
+    read_then (unsigned s at) (λ a c. read_then (unsigned s c) (λ b d. headed encoding endian start s (Ok (head.Bounds code a b d))))
 
 -- a LEB128 number and a length after a code
 abbrev pub startx_length : Encoding → RunTimeEndian → ℕ → List ℕ → ℕ → ℕ → Read (Raw RawLocListEntry)
 startx_length encoding endian start s code at =
-    read_then (unsigned s at) (λ a c. read_then (operand encoding endian start s rangeLength c) (λ b d. headed encoding endian start s (head.Bounds code a b d)))
-
--- a refusal handed on by the code; what is not refused is not handed on, and gets some other answer
-abbrev pub refused_head : Num → Head
-refused_head (num.Got v c) = head.End
-refused_head (num.Refused e) = head.Refused e
+    read_then (unsigned s at) (λ a c. read_then (operand encoding endian start s rangeLength c) (λ b d. headed encoding endian start s (Ok (head.Bounds code a b d))))

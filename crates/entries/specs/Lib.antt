@@ -4,6 +4,7 @@ pub mod Kinds
 pub mod Loaded
 pub mod Told
 pub mod Listed
+pub mod Lists
 pub mod Filled
 pub mod Heads
 pub mod Shortest

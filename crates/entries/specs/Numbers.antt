@@ -1,11 +1,13 @@
 -- Numbers of kinds (docs/SCOPE.md, "Kind numbers"): which kind of range list entries a code stands for, by DWARF or by a table of an
 -- older compiler, and which tables are loaded. What a table does to a list is stated in Renumbered of the lists.
-use Rattle.std.specs.Prelude.{ℕ, zero, suc, Bool, true, false, ◌&&◌, ◌||◌, List, [], ◌∷◌, leb, ltb, eqb, length, get_or}
+use Rattle.std.specs.Prelude.{ℕ, zero, suc, Bool, true, false, ◌&&◌, ◌||◌, List, [], ◌∷◌, leb, ltb, eqb, length, get_or, Some, None, Ok, Err}
+use Rattle.std.specs.Borrow.{Bor}
+use Rattle.std.specs.declared.option.Option.{Option}
+use Rattle.std.specs.declared.result.Result.{Result as Answer}
+use Rattle.section_bytes.specs.declared.error.Error.{Error}
 use Rattle.section_bytes.specs.Read.{Result, gives, refused, Read, pick}
 use Rattle.section_bytes.specs.Error.{number, refusal}
 use Rattle.section_bytes.specs.declared.error.Error.TheVariants.{UnknownRangeListsEntry, BadKindTable}
-use Rattle.entries.specs.declared.kinds.Loading.{Loading}
-use Rattle.entries.specs.declared.kinds.Loading.TheVariants as code
 
 -- the number of a code's kind: in DWARF the code itself
 abbrev pub itself : ℕ → ℕ
@@ -27,6 +29,11 @@ named code (refused n vs) = pick (eqb n (number (UnknownRangeListsEntry code))) 
 abbrev pub number_in : Bool → List ℕ → ℕ → ℕ
 number_in true t code = by_table t code
 number_in false t code = itself code
+
+-- by a table that there may be
+abbrev pub numbers_of : Option (Bor (List ℕ)) → ℕ → ℕ
+numbers_of None code = itself code
+numbers_of (Some t) code = by_table t.now code
 
 -- how a list's entries are coded: as in GNU split lists or not, which is asked of location lists alone; and by which numbers of kinds,
 -- which is asked of range lists alone
@@ -66,6 +73,6 @@ is_table t = eqb (length t) 256 && are_numbers t && none_twice 8 t && ltb 0 (cod
 unfoldable pub loading : List ℕ → Result Unit
 loading t = pick (is_table t) (gives tt) (refusal BadKindTable)
 
-abbrev pub told_loading : Loading → Result Unit
-told_loading code.Loaded = gives tt
-told_loading (code.Refused e) = refusal e
+abbrev pub told_loading : Answer Unit Error → Result Unit
+told_loading (Ok u) = gives tt
+told_loading (Err e) = refusal e

@@ -1,6 +1,9 @@
 -- Whether some LEB128 number of a raw entry is padded: a definition beside that of the entry, over the same kinds and forms. What it
 -- depends on is stated below; its proof is `padded_by_entry` in proofs/PaddedTook.antt.
-use Rattle.std.specs.Prelude.{ℕ, ◌-◌, Bool, true, false, ◌&&◌, ◌||◌, List, [], ◌∷◌, ◌≡◌, take, drop}
+use Rattle.std.specs.Prelude.{ℕ, ◌-◌, Bool, true, false, ◌&&◌, ◌||◌, List, [], ◌∷◌, ◌≡◌, take, drop, Some, None, Ok, Err}
+use Rattle.std.specs.declared.option.Option.{Option}
+use Rattle.std.specs.declared.result.Result.{Result as Answer}
+use Rattle.section_bytes.specs.declared.error.Error.{Error}
 use Rattle.section_bytes.specs.Read.{Result, gives, refused, got, Read}
 use Rattle.section_bytes.specs.Error.{refusal}
 use Rattle.section_bytes.specs.Reader.{uint}
@@ -14,12 +17,8 @@ use Rattle.entries.specs.Kinds.{Kind, endOfList, unknown, kind, kind_of, locatio
 use Rattle.entries.specs.Listed.{EntryIn, entry_in, read_in}
 use Rattle.entries.specs.Shortest.{longer_in}
 use Rattle.entries.specs.Told.{Step, found, ended}
-use Rattle.entries.specs.declared.RawRngListEntry.{RawRngListEntry}
+use Rattle.entries.specs.declared.Noted as code
 use Rattle.entries.specs.declared.RawLocListEntry.{RawLocListEntry}
-use Rattle.entries.specs.declared.RawRangeStep.{RawRangeStep}
-use Rattle.entries.specs.declared.RawRangeStep.TheVariants as rng
-use Rattle.entries.specs.declared.RawLocationStep.{RawLocationStep}
-use Rattle.entries.specs.declared.RawLocationStep.TheVariants as loc
 
 -- a raw entry, and whether some LEB128 number of it is padded
 pub record Noted (E : Type 0) : Type 0 where
@@ -81,15 +80,13 @@ noted p (gives ended) = gives ended
 noted p (refused n vs) = refused n vs
 
 -- what the raw readers answer
-abbrev pub told_range_step : RawRangeStep → Result (Step (Noted RawRngListEntry))
-told_range_step (rng.Entry e p c) = gives (found (record { entry = e; padded = p }) c)
-told_range_step rng.End = gives ended
-told_range_step (rng.Refused e) = refusal e
+abbrev pub noted_as : {E : Type 0} → code.Noted E → Noted E
+noted_as n = record { entry = n.entry; padded = n.padded }
 
-abbrev pub told_location_step : RawLocationStep → Result (Step (Noted RawLocListEntry))
-told_location_step (loc.Entry e p c) = gives (found (record { entry = e; padded = p }) c)
-told_location_step loc.End = gives ended
-told_location_step (loc.Refused e) = refusal e
+abbrev pub told_noted : {E : Type 0} → Answer (Option (code.Noted E × ℕ)) Error → Result (Step (Noted E))
+told_noted (Ok (Some p)) = gives (found (noted_as p.0) p.1)
+told_noted (Ok None) = gives ended
+told_noted (Err e) = refusal e
 
 abbrev pub noted_step_in : (l : Bool) → Result (Step (Noted RawLocListEntry)) → Result (Step (Noted (EntryIn l)))
 noted_step_in l (gives (found x c)) = gives (found (record { entry = entry_in l x.entry; padded = x.padded }) c)

@@ -9,8 +9,7 @@ pub mod padded;
 pub mod raw;
 pub mod rnglists;
 
-use section_bytes::common::DebugAddrIndex;
-use section_bytes::error::Error;
+use section_bytes::common::{DebugAddrIndex, DwarfFileType};
 
 // An expression's bytes: where they start, counted from the section's start, and how many they are.
 #[derive(Clone, Copy)]
@@ -18,6 +17,9 @@ pub struct Expression {
     pub offset: usize,
     pub len: usize,
 }
+
+// Where an entry has no expression, the empty part at the section's start.
+pub const NO_EXPRESSION: Expression = Expression { offset: 0, len: 0 };
 
 #[derive(Clone, Copy)]
 pub enum RawRngListEntry {
@@ -44,25 +46,16 @@ pub enum RawLocListEntry {
     StartLength(u64, u64, Expression),
 }
 
-// One call of a raw reader: an entry, whether some LEB128 number of it is padded, and the place after it; the end; or a refusal.
+// A raw entry, and whether some LEB128 number of it is padded.
 #[derive(Clone, Copy)]
-pub enum RawRangeStep {
-    Entry(RawRngListEntry, bool, usize),
-    End,
-    Refused(Error),
+pub struct Noted<E> {
+    pub entry: E,
+    pub padded: bool,
 }
 
+// Which lists are read: range lists, with DWARF's numbers of kinds or those of a table; or location lists of a file of some type.
 #[derive(Clone, Copy)]
-pub enum RawLocationStep {
-    Entry(RawLocListEntry, bool, usize),
-    End,
-    Refused(Error),
-}
-
-// The same for both lists, without that.
-#[derive(Clone, Copy)]
-pub enum LocationStep {
-    Entry(RawLocListEntry, usize),
-    End,
-    Refused(Error),
+pub enum Lists<'a> {
+    Ranges(Option<&'a [u8]>),
+    Locations(DwarfFileType),
 }

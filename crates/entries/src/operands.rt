@@ -1,27 +1,23 @@
 // What the readers of both lists share: operands whose form depends on the version, and a bare pair's end mark.
+#![tactic(auto, using(section_bytes::proofs::ReaderLaws::goes_on, section_bytes::proofs::ReaderLaws::stops, section_bytes::proofs::ReaderLaws::handed_on, crate::proofs::OperandLaws::cut_within, section_bytes::proofs::LebLaws::single_is), unfolding(crate::specs::Forms::versioned_length, crate::specs::Forms::block))]
+
 ghost use Rattle.std.specs.Prelude.{◌≡◌, ◌+◌, ◌<◌, ◌^◌, length};
-ghost use Rattle.section_bytes.specs.Error.{told, told_split, refusal};
-ghost use Rattle.section_bytes.specs.declared.error.Error.TheVariants.{UnexpectedEof};
-ghost use Rattle.entries.specs.Told.{told_expression, passed_on};
+ghost use Rattle.section_bytes.specs.Error.{told};
 ghost use Rattle.entries.specs.Forms.{expression, versioned_length, block, operand};
 ghost use Rattle.entries.specs.Kinds.{is_end};
 
 use super::Expression;
+use section_bytes::Read;
 use section_bytes::common::Encoding;
 use section_bytes::endianity::RunTimeEndian;
-use section_bytes::error::Error;
-use section_bytes::leb128::OneByte;
-use section_bytes::{Num, Split};
-
-// An expression that was read, with the place after it.
-#[derive(Clone, Copy)]
-pub enum ExpressionAnswer {
-    Got(Expression, usize),
-    Refused(Error),
-}
 
 // The length of location kind 3: LEB128, and four bytes in split lists up to version 4. 1, 2.
-pub(crate) fn read_length(part: &[u8], at: usize, encoding: Encoding, endian: RunTimeEndian) -> Num
+pub(crate) fn read_length(
+    part: &[u8],
+    at: usize,
+    encoding: Encoding,
+    endian: RunTimeEndian,
+) -> Read<u64>
     ensures { told result ≡ versioned_length 4 encoding endian part.now at }
 {
     if encoding.version <= 4 {
@@ -30,41 +26,17 @@ pub(crate) fn read_length(part: &[u8], at: usize, encoding: Encoding, endian: Ru
     section_bytes::leb128::unsigned(part, at)
 }
 
-// A refusal of a length passed on.
-fn passed(r: Num) -> ExpressionAnswer
-    ensures { told_expression result ≡ passed_on (refusal UnexpectedEof) (told r) }
-{
-    match r {
-        Num::Got(_, _) => ExpressionAnswer::Refused(Error::UnexpectedEof),
-        Num::Refused(e) => ExpressionAnswer::Refused(e),
-    }
-}
-
-fn passed_split(r: Split) -> ExpressionAnswer
-    ensures { told_expression result ≡ passed_on (refusal UnexpectedEof) (told_split r) }
-{
-    match r {
-        Split::Got(_, _) => ExpressionAnswer::Refused(Error::UnexpectedEof),
-        Split::Refused(e) => ExpressionAnswer::Refused(e),
-    }
-}
-
 // The bytes of an expression, whose length is read. 1.
-fn expression_bytes(part: &[u8], at: usize, len: u64, start: usize) -> ExpressionAnswer
+fn expression_bytes(part: &[u8], at: usize, len: u64, start: usize) -> Read<Expression>
     requires { start + length part.now < 2 ^ 64 }
-    ensures { told_expression result ≡ block start part.now len at }
+    ensures { told result ≡ block start part.now len at }
 {
-    let r = section_bytes::reader::split(part, at, len);
-    let Split::Got(span, c) = r else {
-        return passed_split(r);
+    let (span, c) = section_bytes::reader::split(part, at, len)?;
+    let expression = Expression {
+        offset: start + span.offset,
+        len: span.len,
     };
-    ExpressionAnswer::Got(
-        Expression {
-            offset: start + span.offset,
-            len: span.len,
-        },
-        c,
-    )
+    Ok((expression, c))
 }
 
 // An expression of a part that starts at a place of its section: its length, LEB128 or two bytes up to version 4, and as
@@ -75,24 +47,18 @@ pub(crate) fn read_expression(
     start: usize,
     encoding: Encoding,
     endian: RunTimeEndian,
-) -> ExpressionAnswer
+) -> Read<Expression>
     requires { start + length part.now < 2 ^ 64 }
-    ensures { told_expression result ≡ operand encoding endian start part.now expression at }
+    ensures { told result ≡ operand encoding endian start part.now expression at }
 {
     if 5 <= encoding.version {
-        if let OneByte::Got(len, c) = section_bytes::leb128::single(part, at) {
+        if let Some((len, c)) = section_bytes::leb128::single(part, at) {
             return expression_bytes(part, c, len, start);
         }
-        let r = section_bytes::leb128::unsigned(part, at);
-        let Num::Got(len, c) = r else {
-            return passed(r);
-        };
+        let (len, c) = section_bytes::leb128::unsigned(part, at)?;
         return expression_bytes(part, c, len, start);
     }
-    let r = section_bytes::reader::read_u16(part, at, endian);
-    let Num::Got(len, c) = r else {
-        return passed(r);
-    };
+    let (len, c) = section_bytes::reader::read_u16(part, at, endian)?;
     expression_bytes(part, c, len, start)
 }
 
@@ -100,8 +66,5 @@ pub(crate) fn read_expression(
 pub(crate) fn is_end(begin: u64, end: u64) -> bool
     ensures { result ≡ is_end begin end }
 {
-    if begin == 0 {
-        return end == 0;
-    }
-    false
+    begin == 0 && end == 0
 }

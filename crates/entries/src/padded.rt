@@ -1,15 +1,18 @@
 // Whether some LEB128 number of a raw entry is padded: by how many bytes the entry took, since nothing else of it has a shorter form. So
 // no byte is read twice, and a walk that doesn't ask pays nothing.
+#![tactic(auto, using(section_bytes::proofs::WrittenLaws::few_bytes))]
+
 ghost use Rattle.std.specs.Prelude.{◌≡◌, ◌+◌, ◌≤◌, leb, ltb};
 ghost use Rattle.entries.specs.Told.{step_of};
 ghost use Rattle.entries.specs.Listed.{entry_in, read_in};
-ghost use Rattle.entries.specs.Numbers.{coding_of};
-ghost use Rattle.entries.specs.Padded.{padded_in, noted, told_location_step, noted_step_in};
+ghost use Rattle.entries.specs.Lists.{are_locations, coding_in};
+ghost use Rattle.entries.specs.Padded.{padded_in, noted, told_noted, noted_step_in};
 ghost use Rattle.entries.specs.Shortest.{least_length, range_longer, location_longer, longer_in};
 
-use super::{Expression, LocationStep, RawLocListEntry, RawLocationStep, RawRngListEntry};
+use super::{Expression, Lists, Noted, RawLocListEntry, RawRngListEntry};
 use section_bytes::common::Encoding;
 use section_bytes::endianity::RunTimeEndian;
+use section_bytes::error::Error;
 use section_bytes::leb128::unsigned_size;
 
 // A range entry took more bytes than it had to.
@@ -89,37 +92,28 @@ fn location_longer(entry: RawLocListEntry, len: usize, encoding: Encoding) -> bo
     }
 }
 
-fn longer(entry: RawLocListEntry, len: usize, encoding: Encoding, locations: bool) -> bool
-    ensures { result ≡ longer_in locations encoding (entry_in locations entry) len }
+fn longer(entry: RawLocListEntry, len: usize, encoding: Encoding, lists: &Lists) -> bool
+    ensures { result ≡ longer_in (are_locations lists.now) encoding (entry_in (are_locations lists.now) entry) len }
 {
-    if locations {
-        return location_longer(entry, len, encoding);
+    match *lists {
+        Lists::Ranges(_) => range_longer(super::raw::bounds_of(entry), len, encoding),
+        Lists::Locations(_) => location_longer(entry, len, encoding),
     }
-    range_longer(super::raw::bounds_of(entry), len, encoding)
 }
 
-// The raw entry at a place, as `raw_entry` reads it, and whether some LEB128 number of it is padded.
+// The raw entry at a place, as `raw_entry` reads it, and whether some LEB128 number of it is padded; with the place after it.
 pub fn noted_entry(
     section: &[u8],
     at: usize,
     encoding: Encoding,
     endian: RunTimeEndian,
-    locations: bool,
-    split: bool,
-    by_table: bool,
-    kinds: &[u8],
-) -> RawLocationStep
-    ensures { noted_step_in locations (told_location_step result) ≡ noted (padded_in locations (coding_of split by_table kinds.now) encoding endian section.now at) (step_of (read_in locations (coding_of split by_table kinds.now) encoding endian section.now at)) }
+    lists: &Lists,
+) -> Result<Option<(Noted<RawLocListEntry>, usize)>, Error>
+    ensures { let l = are_locations lists.now in let coding = coding_in lists.now in noted_step_in l (told_noted result) ≡ noted (padded_in l coding encoding endian section.now at) (step_of (read_in l coding encoding endian section.now at)) }
 {
-    match super::raw::raw_entry(
-        section, at, encoding, endian, locations, split, by_table, kinds,
-    ) {
-        LocationStep::Entry(entry, c) => RawLocationStep::Entry(
-            entry,
-            longer(entry, c - at, encoding, locations),
-            c,
-        ),
-        LocationStep::End => RawLocationStep::End,
-        LocationStep::Refused(e) => RawLocationStep::Refused(e),
-    }
+    let Some((entry, after)) = super::raw::raw_entry(section, at, encoding, endian, lists)? else {
+        return Ok(None);
+    };
+    let padded = longer(entry, after - at, encoding, lists);
+    Ok(Some((Noted { entry, padded }, after)))
 }

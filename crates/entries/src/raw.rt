@@ -1,94 +1,74 @@
 // Raw entries of both lists, read as location entries, whose expression is empty in a range list. The operands of a kind are
 // read in the list's own module; all else is here.
-ghost use Rattle.std.specs.Prelude.{Bool, false, ◌≡◌, ℕ, ◌+◌, ◌<◌, ◌^◌, length};
-ghost use Rattle.section_bytes.specs.Read.{gives, got};
-ghost use Rattle.entries.specs.Told.{step_of, told_location, told_expression, passed_on};
-ghost use Rattle.entries.specs.Forms.{stop};
+ghost use Rattle.std.specs.Prelude.{Bool, false, ◌≡◌, ℕ, ◌+◌, ◌<◌, ◌^◌, length, Ok};
+ghost use Rattle.section_bytes.specs.Common.{is_split};
+ghost use Rattle.entries.specs.Told.{step_of, told_step};
 ghost use Rattle.entries.specs.Kinds.{has_kinds, range_entry_by, location_entry, moved};
-ghost use Rattle.entries.specs.Numbers.{number_in, coding_of};
+ghost use Rattle.entries.specs.Numbers.{numbers_of};
+ghost use Rattle.entries.specs.Lists.{are_locations, coding_in};
 ghost use Rattle.entries.specs.Listed.{bounds, read_in, step_in};
-ghost use Rattle.entries.specs.Heads.{located_as, headed, headed_in, bare_in, Within, refused_head};
+ghost use Rattle.entries.specs.Heads.{located_as, headed, headed_in, bare_in, Within};
 
-use super::operands::ExpressionAnswer;
-use super::{Expression, LocationStep, RawLocListEntry, RawRngListEntry, constants};
-use section_bytes::Num;
-use section_bytes::common::{DebugAddrIndex, Encoding};
+use super::{Expression, Lists, NO_EXPRESSION, RawLocListEntry, RawRngListEntry, constants};
+use section_bytes::common::{DebugAddrIndex, DwarfFileType, Encoding};
 use section_bytes::endianity::RunTimeEndian;
 use section_bytes::error::Error;
 
 // What stands before an entry's expression, with the place after it: a code with two numbers, 0 for a bare pair and 5
-// without numbers; a base address, an end or a refusal, which no expression follows.
+// without numbers; a base address or an end, which no expression follows.
 #[derive(Clone, Copy)]
 pub(crate) enum Head {
     Bounds(u64, u64, u64, usize),
     BaseAddress(u64, usize),
     BaseAddressx(u64, usize),
     End,
-    Refused(Error),
-}
-
-// A refusal of an operand passed on.
-pub(crate) fn passed(r: Num) -> Head
-    ensures { result ≡ refused_head r }
-{
-    match r {
-        Num::Got(_, _) => Head::End,
-        Num::Refused(e) => Head::Refused(e),
-    }
-}
-
-fn passed_expression(r: ExpressionAnswer) -> LocationStep
-    ensures { told_location result ≡ step_of (passed_on (gives (got stop 0)) (told_expression r)) }
-{
-    match r {
-        ExpressionAnswer::Got(_, _) => LocationStep::End,
-        ExpressionAnswer::Refused(e) => LocationStep::Refused(e),
-    }
 }
 
 // The head of a bare pair: both zero end the list, a begin with all bits set makes the end the base address.
-fn bare_head(part: &[u8], encoding: Encoding, endian: RunTimeEndian) -> Head
+#[tactic(auto, using(section_bytes::proofs::ReaderLaws::goes_on, section_bytes::proofs::ReaderLaws::stops, crate::proofs::HeadLaws::head_handed_on, crate::proofs::HeadLaws::pair_head), unfolding(crate::specs::Kinds::bare, crate::specs::Kinds::of_pair))]
+fn bare_head(part: &[u8], encoding: Encoding, endian: RunTimeEndian) -> Result<Head, Error>
     ensures { (l : Bool) (start : ℕ) → step_of (headed_in l encoding endian start part.now result) ≡ step_of (bare_in l encoding endian start part.now) }
 {
     let size = encoding.address_size;
-    let r = section_bytes::reader::read_address(part, 0, size, endian);
-    let Num::Got(begin, c) = r else {
-        return passed(r);
-    };
-    let r1 = section_bytes::reader::read_address(part, c, size, endian);
-    let Num::Got(end, c1) = r1 else {
-        return passed(r1);
-    };
+    let (begin, c) = section_bytes::reader::read_address(part, 0, size, endian)?;
+    let (end, c1) = section_bytes::reader::read_address(part, c, size, endian)?;
     if super::operands::is_end(begin, end) {
-        return Head::End;
+        return Ok(Head::End);
     }
     if begin == section_bytes::address::ones_sized(size) {
-        return Head::BaseAddress(end, c1);
+        return Ok(Head::BaseAddress(end, c1));
     }
-    Head::Bounds(constants::ADDRESS_OR_OFFSET_PAIR, begin, end, c1)
+    Ok(Head::Bounds(constants::ADDRESS_OR_OFFSET_PAIR, begin, end, c1))
 }
 
 // Whether entries have kinds: in split lists always, else from version 5 on.
-fn has_kinds(split: bool, version: u16) -> bool
-    ensures { result ≡ has_kinds split version }
+fn has_kinds(file_type: DwarfFileType, version: u16) -> bool
+    ensures { result ≡ has_kinds (is_split file_type) version }
 {
-    if split {
-        return true;
+    match file_type {
+        DwarfFileType::Main => 5 <= version,
+        DwarfFileType::Dwo => true,
     }
-    5 <= version
 }
 
 // The head of a location entry.
-fn entry_head(part: &[u8], encoding: Encoding, endian: RunTimeEndian, split: bool) -> Head
-    ensures { (start : ℕ) → step_of (headed encoding endian start part.now result) ≡ step_of (location_entry split encoding endian start part.now) }
+#[tactic(auto, unfolding(crate::specs::Kinds::location_entry))]
+fn entry_head(
+    part: &[u8],
+    encoding: Encoding,
+    endian: RunTimeEndian,
+    file_type: DwarfFileType,
+) -> Result<Head, Error>
+    ensures { (start : ℕ) → step_of (headed encoding endian start part.now result) ≡ step_of (location_entry (is_split file_type) encoding endian start part.now) }
 {
-    if has_kinds(split, encoding.version) {
+    if has_kinds(file_type, encoding.version) {
         return super::loclists::coded_head(part, encoding, endian);
     }
     bare_head(part, encoding, endian)
 }
 
 // The entry of a head and the expression after it.
+#[tactic(auto, using(crate::proofs::HeadLaws::located_else), unfolding(crate::specs::Heads::located_as, crate::specs::Kinds::kind_of, crate::specs::Kinds::location_kinds))]
 fn located(code: u64, a: u64, b: u64, expression: Expression) -> RawLocListEntry
     ensures { result ≡ located_as code a b expression }
 {
@@ -111,105 +91,98 @@ fn located(code: u64, a: u64, b: u64, expression: Expression) -> RawLocListEntry
     }
 }
 
-// The entry of a head at the front of a part that starts at a place of its section; the place after it is counted in the
-// section. The expression is read at this one place of the code, whatever the head, so that the reading is compiled into it.
-fn step_of(
+// The entry of a head at the front of a part that starts at a place of its section, with the place after it, which is counted in
+// the section; none for an end. The expression is read at this one place of the code, whatever the head, so that the reading is
+// compiled into it.
+#[tactic(auto, using(section_bytes::proofs::ReaderLaws::goes_on, section_bytes::proofs::ReaderLaws::stops, crate::proofs::StepLaws::step_handed_on, crate::proofs::HeadLaws::data_stops, crate::proofs::HeadLaws::data_step, crate::proofs::HeadLaws::pair_within, crate::proofs::HeadLaws::pair_step))]
+fn entry_of(
     head: Head,
     part: &[u8],
     start: usize,
     encoding: Encoding,
     endian: RunTimeEndian,
     locations: bool,
-) -> LocationStep
+) -> Result<Option<(RawLocListEntry, usize)>, Error>
     requires part_bound { start + length part.now < 2 ^ 64 }
-    requires within { Within (length part.now) (headed_in locations encoding endian start part.now head) }
-    ensures { step_in locations (told_location result) ≡ step_of (moved start (headed_in locations encoding endian start part.now head)) }
+    requires within { Within (length part.now) (headed_in locations encoding endian start part.now (Ok head)) }
+    ensures { step_in locations (told_step result) ≡ step_of (moved start (headed_in locations encoding endian start part.now (Ok head))) }
 {
     match head {
-        Head::End => LocationStep::End,
-        Head::Refused(e) => LocationStep::Refused(e),
-        Head::BaseAddress(addr, c) => LocationStep::Entry(
-            RawLocListEntry::BaseAddress(addr),
+        Head::End => Ok(None),
+        Head::BaseAddress(address, c) => Ok(Some((
+            RawLocListEntry::BaseAddress(address),
             start + c,
-        ),
-        Head::BaseAddressx(addr, c) => {
-            LocationStep::Entry(
-                RawLocListEntry::BaseAddressx(DebugAddrIndex(addr)),
-                start + c,
-            )
+        ))),
+        Head::BaseAddressx(index, c) => {
+            let entry = RawLocListEntry::BaseAddressx(DebugAddrIndex(index));
+            Ok(Some((entry, start + c)))
         }
         Head::Bounds(code, a, b, c) => {
             if locations {
-                let r = super::operands::read_expression(part, c, start, encoding, endian);
-                let ExpressionAnswer::Got(expression, c1) = r else {
-                    return passed_expression(r);
-                };
-                return LocationStep::Entry(located(code, a, b, expression), start + c1);
+                let (expression, c1) = super::operands::read_expression(
+                    part, c, start, encoding, endian,
+                )?;
+                return Ok(Some((located(code, a, b, expression), start + c1)));
             }
-            LocationStep::Entry(
-                located(code, a, b, Expression { offset: 0, len: 0 }),
-                start + c,
-            )
+            Ok(Some((located(code, a, b, NO_EXPRESSION), start + c)))
         }
     }
 }
 
 // The entry at the front of a part that starts at a place of its section: kinds from version 5 on, bare pairs before.
+#[tactic(auto, using(crate::proofs::HeadLaws::range_within), unfolding(crate::specs::Kinds::range_entry_by))]
 fn range_entry(
     part: &[u8],
     start: usize,
     encoding: Encoding,
     endian: RunTimeEndian,
-    by_table: bool,
-    kinds: &[u8],
-) -> LocationStep
+    kinds: Option<&[u8]>,
+) -> Result<Option<(RawLocListEntry, usize)>, Error>
     requires { start + length part.now < 2 ^ 64 }
-    ensures { step_in false (told_location result) ≡ step_of (moved start (range_entry_by (number_in by_table kinds.now) encoding endian part.now)) }
+    ensures { step_in false (told_step result) ≡ step_of (moved start (range_entry_by (numbers_of kinds.entry) encoding endian part.now)) }
 {
     if 5 <= encoding.version {
-        return super::rnglists::coded_range(part, start, encoding, endian, by_table, kinds);
+        return super::rnglists::coded_range(part, start, encoding, endian, kinds);
     }
-    let head = bare_head(part, encoding, endian);
-    step_of(head, part, start, encoding, endian, false)
+    let head = bare_head(part, encoding, endian)?;
+    entry_of(head, part, start, encoding, endian, false)
 }
 
 // The entry at the front of a part of a location list: kinds from version 5 on, and in split lists of every version.
+#[tactic(auto, using(crate::proofs::HeadLaws::location_step, crate::proofs::StepLaws::step_handed_on))]
 fn location_entry(
     part: &[u8],
     start: usize,
     encoding: Encoding,
     endian: RunTimeEndian,
-    split: bool,
-) -> LocationStep
+    file_type: DwarfFileType,
+) -> Result<Option<(RawLocListEntry, usize)>, Error>
     requires { start + length part.now < 2 ^ 64 }
-    ensures { told_location result ≡ step_of (moved start (location_entry split encoding endian start part.now)) }
+    ensures { told_step result ≡ step_of (moved start (location_entry (is_split file_type) encoding endian start part.now)) }
 {
-    let head = entry_head(part, encoding, endian, split);
-    step_of(head, part, start, encoding, endian, true)
+    let head = entry_head(part, encoding, endian, file_type)?;
+    entry_of(head, part, start, encoding, endian, true)
 }
 
-// The raw entry at a place of a list; at or past the section's end, the end. Refused with 3 for ranges and 4 for locations
-// and the code, then operand by operand: an address with 6 and the size, then 1; a LEB128 number with 1 or 2; an expression
-// with its length's refusal, then 1.
+// The raw entry at a place of a list, with the place after it; at or past the section's end, none. Refused with 3 for ranges and 4
+// for locations and the code, then operand by operand: an address with 6 and the size, then 1; a LEB128 number with 1 or 2; an
+// expression with its length's refusal, then 1.
 pub fn raw_entry(
     section: &[u8],
     at: usize,
     encoding: Encoding,
     endian: RunTimeEndian,
-    locations: bool,
-    split: bool,
-    by_table: bool,
-    kinds: &[u8],
-) -> LocationStep
-    ensures { step_in locations (told_location result) ≡ step_of (read_in locations (coding_of split by_table kinds.now) encoding endian section.now at) }
+    lists: &Lists,
+) -> Result<Option<(RawLocListEntry, usize)>, Error>
+    ensures { let l = are_locations lists.now in step_in l (told_step result) ≡ step_of (read_in l (coding_in lists.now) encoding endian section.now at) }
 {
     if section.len() <= at {
-        return LocationStep::End;
+        return Ok(None);
     }
-    if locations {
-        return location_entry(&section[at..], at, encoding, endian, split);
+    match *lists {
+        Lists::Ranges(kinds) => range_entry(&section[at..], at, encoding, endian, kinds),
+        Lists::Locations(file) => location_entry(&section[at..], at, encoding, endian, file),
     }
-    range_entry(&section[at..], at, encoding, endian, by_table, kinds)
 }
 
 // The bounds of a location as a range entry. A default location spans all 64-bit addresses.

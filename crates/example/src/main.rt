@@ -1,47 +1,43 @@
 // Where a value lived at an address: a split location list of DWARF 4, its address table, and a lookup.
 #![tactic(auto)]
 
-use lookups::LocationFound;
+use lists::{LocationListEntry, Unit};
 use section_bytes::common::{DebugAddrBase, DwarfFileType, Encoding, Format, LocationListsOffset};
 use section_bytes::endianity::RunTimeEndian;
 use std::io;
 
-fn wide(x: u8) -> u64 {
-    x as u64
-}
-
 fn print_bytes(rt: &impl Print, bytes: &[u8]) -> io::Result<()> {
-    for x in bytes {
-        print!(rt; " {:02x}", wide(*x))?;
+    for byte in bytes {
+        print!(rt; " {byte:02x}")?;
     }
     println!(rt)
 }
 
 fn look_up(rt: &impl Print, debug_loc: &[u8], debug_addr: &[u8], address: u64) -> io::Result<()> {
-    let encoding = Encoding {
-        address_size: 4,
-        format: Format::Dwarf32,
-        version: 4,
+    let unit = Unit {
+        encoding: Encoding {
+            address_size: 4,
+            format: Format::Dwarf32,
+            version: 4,
+        },
+        endian: RunTimeEndian::Little,
+        debug_addr,
+        debug_addr_base: DebugAddrBase(8),
     };
     match lookups::lookup_location(
         debug_loc,
-        debug_addr,
-        DebugAddrBase(8),
+        &unit,
         LocationListsOffset(0),
         0,
-        encoding,
-        RunTimeEndian::Little,
         DwarfFileType::Dwo,
         address,
     ) {
-        LocationFound::Found(location) => {
-            let range = location.range;
-            let data = location.data;
+        Ok(Some(LocationListEntry { range, data })) => {
             print!(rt; "{:08x} to {:08x}, expression", range.begin, range.end)?;
             print_bytes(rt, lists::loclists::expression(debug_loc, data))
         }
-        LocationFound::NotThere => println!(rt; "not there"),
-        LocationFound::Refused(_) => println!(rt; "refused"),
+        Ok(None) => println!(rt; "not there"),
+        Err(_) => println!(rt; "refused"),
     }
 }
 

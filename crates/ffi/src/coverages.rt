@@ -21,7 +21,7 @@ pub extern "C" fn yz_coverage_from_sheet(
     ensures { handed result begins.new ends.new ≡ placed_told (placing (sheet_ranges sheet.now) begins.old ends.old) }
 {
     let r = sheets::place_sheet(sheet, begins, ends);
-    ffi_words::coverages::count_placed(r)
+    ffi_words::coverages::count_written(r)
 }
 
 // 12 where the first n places make no lawful sheet, or n is above the limit; then 11.

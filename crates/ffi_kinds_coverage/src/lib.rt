@@ -11,7 +11,7 @@ ghost use Rattle.ffi_words.specs.Coverages.{handed, placed_told, output_left};
 
 use ffi_words::common::YzEncoding;
 use ffi_words::coverages::{Places, YzCount};
-use section_bytes::common::{DebugAddrBase, RangeListsOffset};
+use section_bytes::common::RangeListsOffset;
 
 // The refusals of opening, then the first of a walk's refusal and 10.
 #[unsafe(no_mangle)]
@@ -28,21 +28,17 @@ pub extern "C" fn yz_range_coverage_by(
 ) -> YzCount
     ensures { handed result begins.new ends.new ≡ placed_told (placing (coverage_of (source (range_list_by kinds.now) (encoding_of encoding) (endian_in encoding) section.now offset base_address debug_addr.now (record { 0 = debug_addr_base }))) begins.old ends.old) }
 {
-    let unit = ffi_words::common::encoding_of(encoding);
-    let endian = ffi_words::common::endian_in(encoding);
+    let unit = ffi_words::common::unit_of(encoding, debug_addr, debug_addr_base);
     let r = coverage::place::place_ranges_by(
         section,
-        debug_addr,
-        DebugAddrBase(debug_addr_base),
+        &unit,
         RangeListsOffset(offset),
         base_address,
-        unit,
-        endian,
         kinds,
         begins,
         ends,
     );
-    ffi_words::coverages::count_placed(r)
+    ffi_words::coverages::count_written(r)
 }
 
 // The refusals of the coverage, then 11.
@@ -60,21 +56,17 @@ pub extern "C" fn yz_range_runs_by(
 ) -> YzCount
     ensures { handed result begins.new ends.new ≡ placed_told (putting (coverage_of (source (range_list_by kinds.now) (encoding_of encoding) (endian_in encoding) section.now offset base_address debug_addr.now (record { 0 = debug_addr_base }))) begins.old ends.old) }
 {
-    let unit = ffi_words::common::encoding_of(encoding);
-    let endian = ffi_words::common::endian_in(encoding);
+    let unit = ffi_words::common::unit_of(encoding, debug_addr, debug_addr_base);
     let r = coverage::place::runs_of_ranges_by(
         section,
-        debug_addr,
-        DebugAddrBase(debug_addr_base),
+        &unit,
         RangeListsOffset(offset),
         base_address,
-        unit,
-        endian,
         kinds,
         begins,
         ends,
     );
-    ffi_words::coverages::count_placed(r)
+    ffi_words::coverages::count_written(r)
 }
 
 // The refusals of the coverage, then 11.
@@ -91,16 +83,12 @@ pub extern "C" fn yz_range_canonical_by(
 ) -> YzCount
     ensures { left result output.new ≡ output_left (written (canonical_of (source (range_list_by kinds.now) (encoding_of encoding) (endian_in encoding) section.now offset base_address debug_addr.now (record { 0 = debug_addr_base }))) output.old) }
 {
-    let unit = ffi_words::common::encoding_of(encoding);
-    let endian = ffi_words::common::endian_in(encoding);
+    let unit = ffi_words::common::unit_of(encoding, debug_addr, debug_addr_base);
     let r = canonical::of_list::canonical_ranges_by(
         section,
-        debug_addr,
-        DebugAddrBase(debug_addr_base),
+        &unit,
         RangeListsOffset(offset),
         base_address,
-        unit,
-        endian,
         kinds,
         output,
     );

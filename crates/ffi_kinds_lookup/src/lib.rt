@@ -8,7 +8,7 @@ ghost use Rattle.ffi_words.specs.Ranges.{range_found};
 
 use ffi_words::common::YzEncoding;
 use ffi_words::ranges::YzRange;
-use section_bytes::common::{DebugAddrBase, RangeListsOffset};
+use section_bytes::common::RangeListsOffset;
 
 #[unsafe(no_mangle)]
 pub extern "C" fn yz_range_lookup_by(
@@ -23,16 +23,12 @@ pub extern "C" fn yz_range_lookup_by(
 ) -> YzRange
     ensures { result ≡ range_found (lookup_range_by kinds.now (encoding_of encoding) (endian_in encoding) section.now debug_addr.now (record { 0 = debug_addr_base }) offset base_address address) }
 {
-    let unit = ffi_words::common::encoding_of(encoding);
-    let endian = ffi_words::common::endian_in(encoding);
+    let unit = ffi_words::common::unit_of(encoding, debug_addr, debug_addr_base);
     let r = lookups::lookup_range_by(
         section,
-        debug_addr,
-        DebugAddrBase(debug_addr_base),
+        &unit,
         RangeListsOffset(offset),
         base_address,
-        unit,
-        endian,
         kinds,
         address,
     );

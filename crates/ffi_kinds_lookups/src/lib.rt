@@ -7,7 +7,7 @@ ghost use Rattle.stacks.specs.Stack.{counted, counted_of, lookup_ranges_by};
 
 use ffi_words::common::YzEncoding;
 use ffi_words::coverages::YzCount;
-use section_bytes::common::{DebugAddrBase, RangeListsOffset};
+use section_bytes::common::RangeListsOffset;
 use stacks::answers::Rows;
 
 // The answers of addresses in a range list by a table of kind numbers, each at its address's place; how many entries were read.
@@ -25,16 +25,12 @@ pub extern "C" fn yz_range_lookups_by(
 ) -> YzCount
     ensures { counted result found.new ≡ counted_of (lookup_ranges_by kinds.now (encoding_of encoding) (endian_in encoding) section.now debug_addr.now (record { 0 = debug_addr_base }) offset base_address addresses.now found.old) }
 {
-    let unit = ffi_words::common::encoding_of(encoding);
-    let endian = ffi_words::common::endian_in(encoding);
+    let unit = ffi_words::common::unit_of(encoding, debug_addr, debug_addr_base);
     let r = stacks::lookup_ranges_by(
         section,
-        debug_addr,
-        DebugAddrBase(debug_addr_base),
+        &unit,
         RangeListsOffset(offset),
         base_address,
-        unit,
-        endian,
         kinds,
         addresses,
         found,

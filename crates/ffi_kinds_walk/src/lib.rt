@@ -8,19 +8,17 @@ ghost use Rattle.ffi_words.specs.Common.{endian_in, encoding_of, left, done_or_r
 ghost use Rattle.ffi_words.specs.Walks.{walk_in};
 ghost use Rattle.ffi_words.specs.Ranges.{range_next};
 
-use entries::kinds::Loading;
 use ffi_words::common::{DONE, YzDone, YzEncoding};
 use ffi_words::ranges::YzRange;
 use ffi_words::walks::WalkWords;
-use section_bytes::common::DebugAddrBase;
 
 #[unsafe(no_mangle)]
 pub extern "C" fn yz_kinds_load(table: &[u8]) -> YzDone
     ensures { result ≡ done_or_refused (loading table.now) }
 {
     match entries::kinds::load(table) {
-        Loading::Loaded => ffi_words::common::comes_to(DONE),
-        Loading::Refused(e) => ffi_words::common::refused(e),
+        Ok(()) => ffi_words::common::comes_to(DONE),
+        Err(e) => ffi_words::common::refused(e),
     }
 }
 
@@ -36,16 +34,7 @@ pub extern "C" fn yz_range_next_by(
     ensures { left result walk.new ≡ range_next walk.old (next_range_by kinds.now (encoding_of encoding) (endian_in encoding) section.now debug_addr.now (record { 0 = debug_addr_base }) (walk_in walk.old)) }
 {
     let start = ffi_words::walks::start_in(walk);
-    let unit = ffi_words::common::encoding_of(encoding);
-    let endian = ffi_words::common::endian_in(encoding);
-    let r = lists::rnglists::next_by(
-        section,
-        debug_addr,
-        DebugAddrBase(debug_addr_base),
-        start,
-        unit,
-        endian,
-        kinds,
-    );
+    let unit = ffi_words::common::unit_of(encoding, debug_addr, debug_addr_base);
+    let r = lists::rnglists::next_by(section, &unit, start, kinds);
     ffi_words::ranges::range_next(r, walk)
 }

@@ -11,7 +11,7 @@ ghost use Rattle.ffi_words.specs.Coverages.{handed, placed_told, output_left};
 
 use ffi_words::common::YzEncoding;
 use ffi_words::coverages::{Places, YzCount};
-use section_bytes::common::{DebugAddrBase, LocationListsOffset};
+use section_bytes::common::LocationListsOffset;
 
 // The refusals of opening, then the first of a walk's refusal and 10.
 #[unsafe(no_mangle)]
@@ -28,22 +28,18 @@ pub extern "C" fn yz_location_coverage(
 ) -> YzCount
     ensures { handed result begins.new ends.new ≡ placed_told (placing (coverage_of (source (location_list (is_set file_type)) (encoding_of encoding) (endian_in encoding) section.now offset base_address debug_addr.now (record { 0 = debug_addr_base }))) begins.old ends.old) }
 {
-    let unit = ffi_words::common::encoding_of(encoding);
-    let endian = ffi_words::common::endian_in(encoding);
+    let unit = ffi_words::common::unit_of(encoding, debug_addr, debug_addr_base);
     let file = ffi_words::common::file_of(file_type as u64);
     let r = coverage::place::place_locations(
         section,
-        debug_addr,
-        DebugAddrBase(debug_addr_base),
+        &unit,
         LocationListsOffset(offset),
         base_address,
-        unit,
-        endian,
         file,
         begins,
         ends,
     );
-    ffi_words::coverages::count_placed(r)
+    ffi_words::coverages::count_written(r)
 }
 
 // The refusals of the coverage, then 11.
@@ -61,22 +57,18 @@ pub extern "C" fn yz_location_runs(
 ) -> YzCount
     ensures { handed result begins.new ends.new ≡ placed_told (putting (coverage_of (source (location_list (is_set file_type)) (encoding_of encoding) (endian_in encoding) section.now offset base_address debug_addr.now (record { 0 = debug_addr_base }))) begins.old ends.old) }
 {
-    let unit = ffi_words::common::encoding_of(encoding);
-    let endian = ffi_words::common::endian_in(encoding);
+    let unit = ffi_words::common::unit_of(encoding, debug_addr, debug_addr_base);
     let file = ffi_words::common::file_of(file_type as u64);
     let r = coverage::place::runs_of_locations(
         section,
-        debug_addr,
-        DebugAddrBase(debug_addr_base),
+        &unit,
         LocationListsOffset(offset),
         base_address,
-        unit,
-        endian,
         file,
         begins,
         ends,
     );
-    ffi_words::coverages::count_placed(r)
+    ffi_words::coverages::count_written(r)
 }
 
 // The refusals of the coverage, then 11.
@@ -93,17 +85,13 @@ pub extern "C" fn yz_location_canonical(
 ) -> YzCount
     ensures { left result output.new ≡ output_left (written (canonical_of (source (location_list (is_set file_type)) (encoding_of encoding) (endian_in encoding) section.now offset base_address debug_addr.now (record { 0 = debug_addr_base }))) output.old) }
 {
-    let unit = ffi_words::common::encoding_of(encoding);
-    let endian = ffi_words::common::endian_in(encoding);
+    let unit = ffi_words::common::unit_of(encoding, debug_addr, debug_addr_base);
     let file = ffi_words::common::file_of(file_type as u64);
     let r = canonical::of_list::canonical_locations(
         section,
-        debug_addr,
-        DebugAddrBase(debug_addr_base),
+        &unit,
         LocationListsOffset(offset),
         base_address,
-        unit,
-        endian,
         file,
         output,
     );

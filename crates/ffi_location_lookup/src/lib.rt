@@ -8,7 +8,7 @@ ghost use Rattle.ffi_words.specs.Locations.{location_found};
 
 use ffi_words::common::YzEncoding;
 use ffi_words::locations::YzLocation;
-use section_bytes::common::{DebugAddrBase, LocationListsOffset};
+use section_bytes::common::LocationListsOffset;
 
 // The list of a .dwo file is split.
 #[unsafe(no_mangle)]
@@ -24,17 +24,13 @@ pub extern "C" fn yz_location_lookup(
 ) -> YzLocation
     ensures { result ≡ location_found (lookup_location (is_set file_type) (encoding_of encoding) (endian_in encoding) section.now debug_addr.now (record { 0 = debug_addr_base }) offset base_address address) }
 {
-    let unit = ffi_words::common::encoding_of(encoding);
-    let endian = ffi_words::common::endian_in(encoding);
+    let unit = ffi_words::common::unit_of(encoding, debug_addr, debug_addr_base);
     let file = ffi_words::common::file_of(file_type as u64);
     let r = lookups::lookup_location(
         section,
-        debug_addr,
-        DebugAddrBase(debug_addr_base),
+        &unit,
         LocationListsOffset(offset),
         base_address,
-        unit,
-        endian,
         file,
         address,
     );

@@ -7,7 +7,7 @@ ghost use Rattle.stacks.specs.Stack.{counted, counted_of, lookup_locations};
 
 use ffi_words::common::YzEncoding;
 use ffi_words::coverages::YzCount;
-use section_bytes::common::{DebugAddrBase, LocationListsOffset};
+use section_bytes::common::LocationListsOffset;
 use stacks::answers::Rows;
 
 // The answers of addresses in a location list, each at its address's place; how many entries were read. The list of a .dwo file is
@@ -26,17 +26,13 @@ pub extern "C" fn yz_location_lookups(
 ) -> YzCount
     ensures { counted result found.new ≡ counted_of (lookup_locations (is_set file_type) (encoding_of encoding) (endian_in encoding) section.now debug_addr.now (record { 0 = debug_addr_base }) offset base_address addresses.now found.old) }
 {
-    let unit = ffi_words::common::encoding_of(encoding);
-    let endian = ffi_words::common::endian_in(encoding);
+    let unit = ffi_words::common::unit_of(encoding, debug_addr, debug_addr_base);
     let file = ffi_words::common::file_of(file_type as u64);
     let r = stacks::lookup_locations(
         section,
-        debug_addr,
-        DebugAddrBase(debug_addr_base),
+        &unit,
         LocationListsOffset(offset),
         base_address,
-        unit,
-        endian,
         file,
         addresses,
         found,

@@ -10,7 +10,6 @@ ghost use Rattle.ffi_words.specs.Locations.{location_next};
 use ffi_words::common::YzEncoding;
 use ffi_words::locations::YzLocation;
 use ffi_words::walks::WalkWords;
-use section_bytes::common::DebugAddrBase;
 
 #[unsafe(no_mangle)]
 pub extern "C" fn yz_location_next_in_profile(
@@ -24,16 +23,7 @@ pub extern "C" fn yz_location_next_in_profile(
 {
     let start = ffi_words::walks::start_in(walk);
     let file = ffi_words::walks::file_in(walk);
-    let unit = ffi_words::common::encoding_of(encoding);
-    let endian = ffi_words::common::endian_in(encoding);
-    let r = profile::next_location(
-        section,
-        debug_addr,
-        DebugAddrBase(debug_addr_base),
-        start,
-        unit,
-        endian,
-        file,
-    );
+    let unit = ffi_words::common::unit_of(encoding, debug_addr, debug_addr_base);
+    let r = profile::next_location(section, &unit, start, file);
     ffi_words::locations::location_next(r, walk)
 }

@@ -11,7 +11,6 @@ ghost use Rattle.ffi_words.specs.Locations.{location_outcome};
 use ffi_words::common::YzEncoding;
 use ffi_words::locations::{YzLocation, YzLocationEntry, YzRawLocation};
 use ffi_words::walks::WalkWords;
-use section_bytes::common::DebugAddrBase;
 
 // The entry can be handed back in as it is.
 #[unsafe(no_mangle)]
@@ -42,15 +41,7 @@ pub extern "C" fn yz_location_convert_raw(
     ensures { left result walk.new ≡ location_outcome walk.old (convert_location (encoding_of encoding) (endian_in encoding) debug_addr.now (record { 0 = debug_addr_base }) (walk_in walk.old) entry) }
 {
     let start = ffi_words::walks::walk_in(walk);
-    let unit = ffi_words::common::encoding_of(encoding);
-    let endian = ffi_words::common::endian_in(encoding);
-    let r = ffi_words::locations::convert(
-        entry,
-        debug_addr,
-        DebugAddrBase(debug_addr_base),
-        start,
-        unit,
-        endian,
-    );
+    let unit = ffi_words::common::unit_of(encoding, debug_addr, debug_addr_base);
+    let r = ffi_words::locations::convert(entry, &unit, start);
     ffi_words::locations::location_converted(r, walk)
 }

@@ -11,7 +11,7 @@ ghost use Rattle.ffi_words.specs.Locations.{location_next};
 use ffi_words::common::{YzDone, YzEncoding};
 use ffi_words::locations::YzLocation;
 use ffi_words::walks::WalkWords;
-use section_bytes::common::{DebugAddrBase, LocationListsOffset};
+use section_bytes::common::LocationListsOffset;
 
 // The list of a .dwo file is split. A refused opening leaves the walk as it was.
 #[unsafe(no_mangle)]
@@ -43,16 +43,7 @@ pub extern "C" fn yz_location_next(
 {
     let start = ffi_words::walks::start_in(walk);
     let file = ffi_words::walks::file_in(walk);
-    let unit = ffi_words::common::encoding_of(encoding);
-    let endian = ffi_words::common::endian_in(encoding);
-    let r = lists::loclists::next(
-        section,
-        debug_addr,
-        DebugAddrBase(debug_addr_base),
-        start,
-        unit,
-        endian,
-        file,
-    );
+    let unit = ffi_words::common::unit_of(encoding, debug_addr, debug_addr_base);
+    let r = lists::loclists::next(section, &unit, start, file);
     ffi_words::locations::location_next(r, walk)
 }

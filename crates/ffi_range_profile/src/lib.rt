@@ -10,7 +10,6 @@ ghost use Rattle.ffi_words.specs.Ranges.{range_next};
 use ffi_words::common::YzEncoding;
 use ffi_words::ranges::YzRange;
 use ffi_words::walks::WalkWords;
-use section_bytes::common::DebugAddrBase;
 
 #[unsafe(no_mangle)]
 pub extern "C" fn yz_range_next_in_profile(
@@ -23,15 +22,7 @@ pub extern "C" fn yz_range_next_in_profile(
     ensures { left result walk.new ≡ range_next walk.old (profile_range (encoding_of encoding) (endian_in encoding) section.now debug_addr.now (record { 0 = debug_addr_base }) (walk_in walk.old)) }
 {
     let start = ffi_words::walks::start_in(walk);
-    let unit = ffi_words::common::encoding_of(encoding);
-    let endian = ffi_words::common::endian_in(encoding);
-    let r = profile::next_range(
-        section,
-        debug_addr,
-        DebugAddrBase(debug_addr_base),
-        start,
-        unit,
-        endian,
-    );
+    let unit = ffi_words::common::unit_of(encoding, debug_addr, debug_addr_base);
+    let r = profile::next_range(section, &unit, start);
     ffi_words::ranges::range_next(r, walk)
 }

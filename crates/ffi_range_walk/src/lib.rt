@@ -11,7 +11,7 @@ ghost use Rattle.ffi_words.specs.Ranges.{range_next};
 use ffi_words::common::{YzDone, YzEncoding};
 use ffi_words::ranges::YzRange;
 use ffi_words::walks::WalkWords;
-use section_bytes::common::{DebugAddrBase, RangeListsOffset};
+use section_bytes::common::RangeListsOffset;
 
 // A refused opening leaves the walk as it was.
 #[unsafe(no_mangle)]
@@ -40,15 +40,7 @@ pub extern "C" fn yz_range_next(
     ensures { left result walk.new ≡ range_next walk.old (next_range (encoding_of encoding) (endian_in encoding) section.now debug_addr.now (record { 0 = debug_addr_base }) (walk_in walk.old)) }
 {
     let start = ffi_words::walks::start_in(walk);
-    let unit = ffi_words::common::encoding_of(encoding);
-    let endian = ffi_words::common::endian_in(encoding);
-    let r = lists::rnglists::next(
-        section,
-        debug_addr,
-        DebugAddrBase(debug_addr_base),
-        start,
-        unit,
-        endian,
-    );
+    let unit = ffi_words::common::unit_of(encoding, debug_addr, debug_addr_base);
+    let r = lists::rnglists::next(section, &unit, start);
     ffi_words::ranges::range_next(r, walk)
 }

@@ -1,13 +1,9 @@
--- Entries that are handed in: what is refused, and what a known one comes to. An entry is told by one code and one row of numbers,
--- by the tables of kinds, so that a raw call's contract leaves one answer. Assumes nothing.
+-- An entry is told by one code and one row of numbers, by the tables of kinds, so that a raw call's contract leaves one answer. Assumes
+-- nothing.
 use mathlib.Core.List.{List}
 use mathlib.Core.Path.{◌≡◌, refl, sym, ap, ap₂, ◌∙◌}
-use mathlib.Core.Bool.{true, false}
 use Prim.Native.Nat.{ℕ}
 use Rattle.section_bytes.specs.Read.{Result, gives, refused}
-use Rattle.section_bytes.specs.Error.{number, values}
-use Rattle.section_bytes.specs.Reader.{is_size}
-use Rattle.section_bytes.specs.declared.error.Error.TheVariants.{UnsupportedAddressSize}
 use Rattle.tables.specs.Next.{Next, ends, hands}
 use Rattle.entries.specs.Filled.{Filled, whole}
 use Rattle.entries.specs.Listed.{no_expression}
@@ -15,26 +11,14 @@ use Rattle.entries.specs.Padded.{Noted}
 use Rattle.entries.specs.declared.RawRngListEntry.{RawRngListEntry}
 use Rattle.entries.specs.declared.RawLocListEntry.{RawLocListEntry}
 use Rattle.entries.proofs.FilledLaws.{ranges_of, locations_of, Numbers, range_numbers_lem, location_numbers_lem}
-use Rattle.lists.specs.Walk.{Outcome, comes}
 use Rattle.lists.specs.declared.Walk.{Walk}
 use Rattle.ffi_words.specs.Common.{Left, left}
-use Rattle.ffi_words.specs.Entries.{range_in, expression_in, expression_told, location_in, no_range_entry, no_location_entry, RawTold, with_entry, raw_range_told, raw_location_told, raw_next, raw_range_next, raw_location_next, on_taken, sized}
+use Rattle.ffi_words.specs.Entries.{range_in, expression_in, expression_told, location_in, no_range_entry, no_location_entry, RawTold, with_entry, raw_range_told, raw_location_told, raw_next, raw_range_next, raw_location_next}
 use Rattle.ffi_words.specs.declared.common.YzDone.{YzDone}
 use Rattle.ffi_words.specs.declared.ranges.YzRangeEntry.{YzRangeEntry}
 use Rattle.ffi_words.specs.declared.ranges.YzRawRange.{YzRawRange}
 use Rattle.ffi_words.specs.declared.locations.YzLocationEntry.{YzLocationEntry}
 use Rattle.ffi_words.specs.declared.locations.YzRawLocation.{YzRawLocation}
-
--- with a size that is read, an entry comes to what its list makes of it
-pub sized_known : {D E : Type 0} (size : ℕ) (w : Walk) (f : E → Outcome D)
-    {q r : Result E} {o : Outcome D}
-    → is_size size ≡ true → r ≡ q → o ≡ on_taken w f r → o ≡ sized size w (on_taken w f q)
-sized_known size w f h e k = rw h (k ∙ ap (on_taken w f) e)
-
--- with another size nothing else is looked at
-pub sized_other : {D : Type 0} (size : ℕ) (w : Walk) (o : Outcome D) → is_size size ≡ false
-    → comes (refused (number (UnsupportedAddressSize size)) (values (UnsupportedAddressSize size))) w ≡ sized size w o
-sized_other size w o h = rw h
 
 -- numbers that are an entry, with what is over: no others are it
 abbrev range_entry_of : Numbers → YzRangeEntry

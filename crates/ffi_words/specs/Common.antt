@@ -1,5 +1,6 @@
 -- What a call over the C interface is told of a unit, what it comes to, and what it leaves in the words or bytes that it is lent.
 use Rattle.std.specs.Prelude.{ℕ, Bool, true, false, List, eqb, get_or}
+use Rattle.std.specs.Borrow.{Bor}
 use Rattle.section_bytes.specs.Read.{Result, gives, refused, pick}
 use Rattle.section_bytes.specs.declared.common.DwarfFileType.{DwarfFileType}
 use Rattle.section_bytes.specs.declared.common.DwarfFileType.TheVariants.{Main, Dwo}
@@ -8,6 +9,7 @@ use Rattle.section_bytes.specs.declared.common.Format.{Format}
 use Rattle.section_bytes.specs.declared.common.Format.TheVariants.{Dwarf32, Dwarf64}
 use Rattle.section_bytes.specs.declared.endianity.RunTimeEndian.{RunTimeEndian}
 use Rattle.section_bytes.specs.declared.endianity.RunTimeEndian.TheVariants.{Little, Big}
+use Rattle.lists.specs.declared.Unit.{Unit as DwarfUnit}
 use Rattle.ffi_words.specs.declared.common.YzEncoding.{YzEncoding}
 use Rattle.ffi_words.specs.declared.common.YzPart.{YzPart}
 use Rattle.ffi_words.specs.declared.common.YzDone.{YzDone}
@@ -35,6 +37,10 @@ encoding_of encoding =
 abbrev pub file_of : Bool → DwarfFileType
 file_of false = Main
 file_of true = Dwo
+
+-- a unit by its encoding, and its table of addresses
+abbrev pub unit_of : YzEncoding → Bor (List ℕ) → ℕ → DwarfUnit
+unit_of encoding table base = record { encoding = encoding_of encoding; endian = endian_in encoding; debug_addr = table; debug_addr_base = record { 0 = base } }
 
 -- an encoding told, with the byte order that it was read in
 abbrev pub number_of : Bool → ℕ

@@ -2,7 +2,7 @@
 -- tell.
 use Rattle.std.specs.Prelude.{ℕ, List}
 use Rattle.section_bytes.specs.Read.{Result, gives, refused, pick}
-use Rattle.section_bytes.specs.Error.{number, values, refusal}
+use Rattle.section_bytes.specs.Error.{number, values}
 use Rattle.section_bytes.specs.Reader.{is_size}
 use Rattle.section_bytes.specs.declared.common.DebugAddrBase.{DebugAddrBase}
 use Rattle.section_bytes.specs.declared.common.Encoding.{Encoding}
@@ -20,12 +20,8 @@ use Rattle.ffi_words.specs.Common.{number_of, part, no_part, done, Left}
 use Rattle.ffi_words.specs.Items.{next_told}
 use Rattle.ffi_words.specs.declared.common.YzDone.{YzDone}
 use Rattle.ffi_words.specs.declared.common.YzPart.{YzPart}
-use Rattle.ffi_words.specs.declared.ranges.RangeTaken.{RangeTaken}
-use Rattle.ffi_words.specs.declared.ranges.RangeTaken.TheVariants as rangeTaken
 use Rattle.ffi_words.specs.declared.ranges.YzRangeEntry.{YzRangeEntry}
 use Rattle.ffi_words.specs.declared.ranges.YzRawRange.{YzRawRange}
-use Rattle.ffi_words.specs.declared.locations.LocationTaken.{LocationTaken}
-use Rattle.ffi_words.specs.declared.locations.LocationTaken.TheVariants as locationTaken
 use Rattle.ffi_words.specs.declared.locations.YzLocationEntry.{YzLocationEntry}
 use Rattle.ffi_words.specs.declared.locations.YzRawLocation.{YzRawLocation}
 
@@ -98,12 +94,3 @@ unfoldable pub convert_location : Encoding → RunTimeEndian → List ℕ → De
 convert_location encoding endian table tableBase w t =
     sized encoding.address_size w
     (on_taken w (converted_location encoding endian table tableBase w) (entry_only (location_in t)))
-
--- the code's answers
-abbrev pub told_range_taken : RangeTaken → Result RawRngListEntry
-told_range_taken (rangeTaken.Entry e) = gives e
-told_range_taken (rangeTaken.Refused e) = refusal e
-
-abbrev pub told_location_taken : LocationTaken → Result RawLocListEntry
-told_location_taken (locationTaken.Entry e) = gives e
-told_location_taken (locationTaken.Refused e) = refusal e

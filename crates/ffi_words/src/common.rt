@@ -1,9 +1,10 @@
 // What a call is told of a unit, a part of a section, and what a call comes to.
 ghost use Rattle.std.specs.Prelude.{◌≡◌};
 ghost use Rattle.section_bytes.specs.Error.{number, values};
-ghost use Rattle.ffi_words.specs.Common.{endian_of, endian_in, format_of, encoding_of, is_set, file_of, is_dwarf64, encoding_told, no_encoding, no_part, comes_to, refused_by};
+ghost use Rattle.ffi_words.specs.Common.{endian_of, endian_in, format_of, encoding_of, unit_of, is_set, file_of, is_dwarf64, encoding_told, no_encoding, no_part, comes_to, refused_by};
 
-use section_bytes::common::{DwarfFileType, Encoding, Format};
+use lists::Unit;
+use section_bytes::common::{DebugAddrBase, DwarfFileType, Encoding, Format};
 use section_bytes::endianity::RunTimeEndian;
 use section_bytes::error::Error;
 
@@ -81,14 +82,23 @@ pub fn encoding_of(encoding: YzEncoding) -> Encoding
     }
 }
 
+// A unit by its encoding, and its table of addresses.
+pub fn unit_of<'a>(encoding: YzEncoding, debug_addr: &'a [u8], debug_addr_base: u64) -> Unit<'a>
+    ensures { result ≡ unit_of encoding debug_addr.entry debug_addr_base }
+{
+    Unit {
+        encoding: encoding_of(encoding),
+        endian: endian_in(encoding),
+        debug_addr,
+        debug_addr_base: DebugAddrBase(debug_addr_base),
+    }
+}
+
 // Whether a word says yes: any but 0 does.
 pub fn is_set(word: u64) -> bool
     ensures { result ≡ is_set word }
 {
-    if word == 0 {
-        return false;
-    }
-    true
+    word != 0
 }
 
 // The kind of file that a word tells.

@@ -1,12 +1,11 @@
 // Coverages, sheets and canonical lists.
 ghost use Rattle.std.specs.Prelude.{◌≡◌};
-ghost use Rattle.coverage.specs.Told.{told_wrote, told_count};
+ghost use Rattle.section_bytes.specs.Error.{told_value};
 ghost use Rattle.ffi_words.specs.Common.{done};
 ghost use Rattle.ffi_words.specs.Coverages.{count as count_of, no_count, count_written};
 
 use super::common::{DONE, YzDone};
-use coverage::collect::Collected;
-use coverage::{LIMIT, Wrote};
+use coverage::LIMIT;
 use section_bytes::error::Error;
 
 // How many ranges a coverage has, or how many bytes were written.
@@ -35,21 +34,11 @@ fn no_count(done: YzDone) -> YzCount
     YzCount { done, count: 0 }
 }
 
-pub fn count_written(r: Wrote) -> YzCount
-    ensures { result ≡ count_written (told_wrote r) }
+pub fn count_written(r: Result<usize, Error>) -> YzCount
+    ensures { result ≡ count_written (told_value r) }
 {
     match r {
-        Wrote::Bytes(n) => count_told(n),
-        Wrote::Refused(e) => no_count(super::common::refused(e)),
-    }
-}
-
-pub fn count_placed(r: Collected) -> YzCount
-    ensures { result ≡ count_written (told_count r) }
-{
-    match r {
-        Collected::Got(n) => count_told(n),
-        Collected::Full => no_count(super::common::refused(Error::TooManyRanges)),
-        Collected::Refused(e) => no_count(super::common::refused(e)),
+        Ok(n) => count_told(n),
+        Err(e) => no_count(super::common::refused(e)),
     }
 }

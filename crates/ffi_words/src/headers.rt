@@ -1,6 +1,7 @@
 // Headers, address tables, offset tables.
 ghost use Rattle.std.specs.Prelude.{◌≡◌};
-ghost use Rattle.tables.specs.Addr.{told_address, told_next_header, told_next_entry};
+ghost use Rattle.section_bytes.specs.Error.{told_value};
+ghost use Rattle.tables.specs.Next.{told_next};
 ghost use Rattle.tables.specs.Lists.{told_lists};
 ghost use Rattle.tables.specs.Row.{told_range_offset, told_location_offset};
 ghost use Rattle.ffi_words.specs.Common.{left};
@@ -10,11 +11,10 @@ ghost use Rattle.ffi_words.specs.Headers.{lists_told, no_table, table_next, entr
 use super::common::{DONE, END, YzDone, YzEncoding, YzPart};
 use super::reads::YzNumber;
 use section_bytes::Span;
-use section_bytes::common::Encoding;
-use tables::addr::{AddrEntryIter, AddressAnswer, NextEntry, NextHeader};
-use tables::lists::ListsAnswer;
-use tables::loclists::LocationOffsetAnswer;
-use tables::rnglists::RangeOffsetAnswer;
+use section_bytes::common::{Encoding, LocationListsOffset, RangeListsOffset};
+use section_bytes::error::Error;
+use tables::addr::{AddrEntryIter, AddrHeader, AddrHeaderIter};
+use tables::lists::ListsHeader;
 
 // A header of lists: how its unit is written, how many offsets it counts, its own size, and what is left of the unit.
 #[repr(C)]
@@ -44,39 +44,39 @@ pub type HeadersWords = [u64; 1];
 // What is left of a table's addresses, in and out: offset and length.
 pub type EntriesWords = [u64; 2];
 
-pub fn address_number(r: AddressAnswer) -> YzNumber
-    ensures { result ≡ number_result (told_address r) }
+pub fn address_number(r: Result<u64, Error>) -> YzNumber
+    ensures { result ≡ number_result (told_value r) }
 {
     match r {
-        AddressAnswer::Address(v) => super::reads::number(v),
-        AddressAnswer::Refused(e) => super::reads::no_number(super::common::refused(e)),
+        Ok(v) => super::reads::number(v),
+        Err(e) => super::reads::no_number(super::common::refused(e)),
     }
 }
 
-pub fn range_offset_number(r: RangeOffsetAnswer) -> YzNumber
+pub fn range_offset_number(r: Result<RangeListsOffset, Error>) -> YzNumber
     ensures { result ≡ number_result (told_range_offset r) }
 {
     match r {
-        RangeOffsetAnswer::Offset(v) => super::reads::number(v.0),
-        RangeOffsetAnswer::Refused(e) => super::reads::no_number(super::common::refused(e)),
+        Ok(v) => super::reads::number(v.0),
+        Err(e) => super::reads::no_number(super::common::refused(e)),
     }
 }
 
-pub fn location_offset_number(r: LocationOffsetAnswer) -> YzNumber
+pub fn location_offset_number(r: Result<LocationListsOffset, Error>) -> YzNumber
     ensures { result ≡ number_result (told_location_offset r) }
 {
     match r {
-        LocationOffsetAnswer::Offset(v) => super::reads::number(v.0),
-        LocationOffsetAnswer::Refused(e) => super::reads::no_number(super::common::refused(e)),
+        Ok(v) => super::reads::number(v.0),
+        Err(e) => super::reads::no_number(super::common::refused(e)),
     }
 }
 
 // The encoding of a header has the byte order that it was read in.
-pub fn lists_header(r: ListsAnswer, big_endian: bool) -> YzListsHeader
+pub fn lists_header(r: Result<(ListsHeader, Span), Error>, big_endian: bool) -> YzListsHeader
     ensures { result ≡ lists_told big_endian (told_lists r) }
 {
     match r {
-        ListsAnswer::Header(header, rest) => {
+        Ok((header, rest)) => {
             let encoding = header.encoding;
             YzListsHeader {
                 done: super::common::comes_to(DONE),
@@ -89,7 +89,7 @@ pub fn lists_header(r: ListsAnswer, big_endian: bool) -> YzListsHeader
                 },
             }
         }
-        ListsAnswer::Refused(e) => YzListsHeader {
+        Err(e) => YzListsHeader {
             done: super::common::refused(e),
             encoding: super::common::no_encoding(),
             offset_entry_count: 0,
@@ -111,34 +111,28 @@ fn no_table(done: YzDone) -> YzTableHeader
     }
 }
 
-pub fn table_next(r: NextHeader, big_endian: bool, words: &mut HeadersWords) -> YzTableHeader
-    ensures { left result words.new ≡ table_next big_endian (told_next_header r) }
+pub fn table_next(
+    handed: (Result<Option<AddrHeader>, Error>, AddrHeaderIter),
+    big_endian: bool,
+    words: &mut HeadersWords,
+) -> YzTableHeader
+    ensures { left result words.new ≡ table_next big_endian (told_next handed.0 handed.1) }
 {
-    match r {
-        NextHeader::Header(header, walk) => {
-            *words = [walk.at as u64];
-            let encoding = header.encoding;
-            let offset = header.offset;
-            let entries = header.entries;
-            YzTableHeader {
-                done: super::common::comes_to(DONE),
-                encoding: super::common::encoding_told(encoding, big_endian),
-                offset: offset.0,
-                length: header.length,
-                entries: YzPart {
-                    offset: entries.offset as u64,
-                    length: entries.len as u64,
-                },
-            }
-        }
-        NextHeader::End(walk) => {
-            *words = [walk.at as u64];
-            no_table(super::common::comes_to(END))
-        }
-        NextHeader::Refused(e, walk) => {
-            *words = [walk.at as u64];
-            no_table(super::common::refused(e))
-        }
+    let (answer, walk) = handed;
+    *words = [walk.at as u64];
+    match answer {
+        Ok(Some(header)) => YzTableHeader {
+            done: super::common::comes_to(DONE),
+            encoding: super::common::encoding_told(header.encoding, big_endian),
+            offset: header.offset.0,
+            length: header.length,
+            entries: YzPart {
+                offset: header.entries.offset as u64,
+                length: header.entries.len as u64,
+            },
+        },
+        Ok(None) => no_table(super::common::comes_to(END)),
+        Err(e) => no_table(super::common::refused(e)),
     }
 }
 
@@ -160,21 +154,17 @@ fn hand_back_entries(words: &mut EntriesWords, walk: AddrEntryIter)
     *words = [entries.offset as u64, entries.len as u64];
 }
 
-pub fn entry_next(r: NextEntry, words: &mut EntriesWords) -> YzNumber
-    ensures { left result words.new ≡ entry_next (told_next_entry r) }
+pub fn entry_next(
+    handed: (Result<Option<u64>, Error>, AddrEntryIter),
+    words: &mut EntriesWords,
+) -> YzNumber
+    ensures { left result words.new ≡ entry_next (told_next handed.0 handed.1) }
 {
-    match r {
-        NextEntry::Address(address, walk) => {
-            hand_back_entries(words, walk);
-            super::reads::number(address)
-        }
-        NextEntry::End(walk) => {
-            hand_back_entries(words, walk);
-            super::reads::no_number(super::common::comes_to(END))
-        }
-        NextEntry::Refused(e, walk) => {
-            hand_back_entries(words, walk);
-            super::reads::no_number(super::common::refused(e))
-        }
+    let (answer, walk) = handed;
+    hand_back_entries(words, walk);
+    match answer {
+        Ok(Some(address)) => super::reads::number(address),
+        Ok(None) => super::reads::no_number(super::common::comes_to(END)),
+        Err(e) => super::reads::no_number(super::common::refused(e)),
     }
 }

@@ -1,23 +1,21 @@
 // Location lists, plain and split.
 ghost use Rattle.std.specs.Prelude.{◌≡◌};
+ghost use Rattle.section_bytes.specs.Error.{told_value};
 ghost use Rattle.section_bytes.specs.Read.{gives};
 ghost use Rattle.entries.specs.Filled.{whole};
-ghost use Rattle.lists.specs.Walk.{item, told_next_location, told_raw_location, told_converted_location};
+ghost use Rattle.lists.specs.Walk.{item, told_next_location, told_raw, told_converted_location};
 ghost use Rattle.lists.specs.Risen.{call_raised};
 ghost use Rattle.lookups.specs.Lookup.{told_location_found};
 ghost use Rattle.ffi_words.specs.Walks.{count_in};
 ghost use Rattle.ffi_words.specs.Common.{left, no_part};
-ghost use Rattle.ffi_words.specs.Entries.{expression_in, expression_told, told_location_taken, entry_only, location_in, raw_location_told, raw_location_next, convert_location};
+ghost use Rattle.ffi_words.specs.Entries.{expression_in, expression_told, entry_only, location_in, raw_location_told, raw_location_next, convert_location};
 ghost use Rattle.ffi_words.specs.Locations.{location_told, no_location, location_next, location_outcome, location_found};
 
 use super::common::{DONE, END, NOT_THERE, NOTHING, YzDone, YzPart};
 use super::walks::WalkWords;
-use entries::{Expression, RawLocListEntry, constants};
-use lists::loclists::{LocationAnswer, LocationConverted, RawLocationAnswer};
-use lists::{LocationListEntry, Walk};
-use lookups::LocationFound;
-use section_bytes::common::{DebugAddrBase, DebugAddrIndex, Encoding};
-use section_bytes::endianity::RunTimeEndian;
+use entries::{Expression, Noted, RawLocListEntry, constants};
+use lists::{LocationListEntry, Unit, Walk};
+use section_bytes::common::DebugAddrIndex;
 use section_bytes::error::Error;
 
 #[repr(C)]
@@ -82,32 +80,28 @@ fn no_location(done: YzDone) -> YzLocation
 }
 
 // The entries of the call were counted from 0, and are added to those of the walk.
-pub fn location_next(r: LocationAnswer, words: &mut WalkWords) -> YzLocation
-    ensures { left result words.new ≡ location_next words.old (call_raised (count_in words.old) (told_next_location r)) }
+pub fn location_next(
+    handed: (Result<Option<LocationListEntry>, Error>, Walk),
+    words: &mut WalkWords,
+) -> YzLocation
+    ensures { left result words.new ≡ location_next words.old (call_raised (count_in words.old) (told_next_location handed.0 handed.1)) }
 {
-    match r {
-        LocationAnswer::Location(location, walk) => {
-            super::walks::hand_on(words, walk);
-            location_told(location)
-        }
-        LocationAnswer::End(walk) => {
-            super::walks::hand_on(words, walk);
-            no_location(super::common::comes_to(END))
-        }
-        LocationAnswer::Refused(e, walk) => {
-            super::walks::hand_on(words, walk);
-            no_location(super::common::refused(e))
-        }
+    let (answer, walk) = handed;
+    super::walks::hand_on(words, walk);
+    match answer {
+        Ok(Some(location)) => location_told(location),
+        Ok(None) => no_location(super::common::comes_to(END)),
+        Err(e) => no_location(super::common::refused(e)),
     }
 }
 
-pub fn location_found(r: LocationFound) -> YzLocation
+pub fn location_found(r: Result<Option<LocationListEntry>, Error>) -> YzLocation
     ensures { result ≡ location_found (told_location_found r) }
 {
     match r {
-        LocationFound::Found(location) => location_told(location),
-        LocationFound::NotThere => no_location(super::common::comes_to(NOT_THERE)),
-        LocationFound::Refused(e) => no_location(super::common::refused(e)),
+        Ok(Some(location)) => location_told(location),
+        Ok(None) => no_location(super::common::comes_to(NOT_THERE)),
+        Err(e) => no_location(super::common::refused(e)),
     }
 }
 
@@ -133,6 +127,7 @@ fn numbers_with(kind: u64, first: u64, second: u64, x: Expression) -> YzLocation
     }
 }
 
+#[tactic(auto, unfolding(entries::specs::Filled::location_of, entries::specs::Kinds::kind_of, entries::specs::Kinds::location_kinds))]
 fn entry_out(raw: RawLocListEntry) -> YzLocationEntry
     ensures { location_in result ≡ gives (whole raw) }
 {
@@ -192,42 +187,31 @@ fn entry_out(raw: RawLocListEntry) -> YzLocationEntry
     }
 }
 
-pub fn raw_location(r: RawLocationAnswer, words: &mut WalkWords) -> YzRawLocation
-    ensures { left (raw_location_told result) words.new ≡ raw_location_next words.old (told_raw_location r) }
+pub fn raw_location(
+    handed: (Result<Option<Noted<RawLocListEntry>>, Error>, Walk),
+    words: &mut WalkWords,
+) -> YzRawLocation
+    ensures { left (raw_location_told result) words.new ≡ raw_location_next words.old (told_raw handed.0 handed.1) }
 {
-    match r {
-        RawLocationAnswer::Entry(raw, padded, walk) => {
-            super::walks::hand_back(words, walk);
-            YzRawLocation {
-                done: super::common::comes_to(DONE),
-                entry: entry_out(raw),
-                padded: padded as u64,
-            }
-        }
-        RawLocationAnswer::End(walk) => {
-            super::walks::hand_back(words, walk);
-            YzRawLocation {
-                done: super::common::comes_to(END),
-                entry: numbers(0, 0, 0),
-                padded: 0,
-            }
-        }
-        RawLocationAnswer::Refused(e, walk) => {
-            super::walks::hand_back(words, walk);
-            YzRawLocation {
-                done: super::common::refused(e),
-                entry: numbers(0, 0, 0),
-                padded: 0,
-            }
-        }
+    let (answer, walk) = handed;
+    super::walks::hand_back(words, walk);
+    match answer {
+        Ok(Some(noted)) => YzRawLocation {
+            done: super::common::comes_to(DONE),
+            entry: entry_out(noted.entry),
+            padded: noted.padded as u64,
+        },
+        Ok(None) => YzRawLocation {
+            done: super::common::comes_to(END),
+            entry: numbers(0, 0, 0),
+            padded: 0,
+        },
+        Err(e) => YzRawLocation {
+            done: super::common::refused(e),
+            entry: numbers(0, 0, 0),
+            padded: 0,
+        },
     }
-}
-
-// An entry that a caller hands in, or 4 for a code above the kinds.
-#[derive(Clone, Copy)]
-pub enum LocationTaken {
-    Entry(RawLocListEntry),
-    Refused(Error),
 }
 
 fn expression_in(part: YzPart) -> Expression
@@ -239,8 +223,10 @@ fn expression_in(part: YzPart) -> Expression
     }
 }
 
-pub fn entry_in(entry: YzLocationEntry) -> LocationTaken
-    ensures { told_location_taken result ≡ entry_only (location_in entry) }
+// An entry that a caller hands in, or 4 for a code above the kinds.
+#[tactic(auto, using(entries::proofs::KindLaws::no_location_kind), unfolding(entries::specs::Filled::location_of, entries::specs::Kinds::kind_of, entries::specs::Kinds::location_kinds))]
+pub fn entry_in(entry: YzLocationEntry) -> Result<RawLocListEntry, Error>
+    ensures { told_value result ≡ entry_only (location_in entry) }
 {
     let code = entry.kind;
     let first = entry.first;
@@ -248,82 +234,59 @@ pub fn entry_in(entry: YzLocationEntry) -> LocationTaken
     let part = entry.expression;
     let x = expression_in(part);
     match code {
-        constants::ADDRESS_OR_OFFSET_PAIR => LocationTaken::Entry(
-            RawLocListEntry::AddressOrOffsetPair(first, second, x),
-        ),
-        constants::DW_LLE_base_addressx => LocationTaken::Entry(RawLocListEntry::BaseAddressx(
-            DebugAddrIndex(first),
+        constants::ADDRESS_OR_OFFSET_PAIR => Ok(RawLocListEntry::AddressOrOffsetPair(
+            first, second, x,
         )),
-        constants::DW_LLE_startx_endx => LocationTaken::Entry(RawLocListEntry::StartxEndx(
+        constants::DW_LLE_base_addressx => Ok(RawLocListEntry::BaseAddressx(DebugAddrIndex(first))),
+        constants::DW_LLE_startx_endx => Ok(RawLocListEntry::StartxEndx(
             DebugAddrIndex(first),
             DebugAddrIndex(second),
             x,
         )),
-        constants::DW_LLE_startx_length => LocationTaken::Entry(RawLocListEntry::StartxLength(
+        constants::DW_LLE_startx_length => Ok(RawLocListEntry::StartxLength(
             DebugAddrIndex(first),
             second,
             x,
         )),
-        constants::DW_LLE_offset_pair => LocationTaken::Entry(RawLocListEntry::OffsetPair(
-            first, second, x,
-        )),
-        constants::DW_LLE_default_location => LocationTaken::Entry(RawLocListEntry::DefaultLocation(
-            x,
-        )),
-        constants::DW_LLE_base_address => LocationTaken::Entry(RawLocListEntry::BaseAddress(first)),
-        constants::DW_LLE_start_end => LocationTaken::Entry(RawLocListEntry::StartEnd(
-            first, second, x,
-        )),
-        constants::DW_LLE_start_length => LocationTaken::Entry(RawLocListEntry::StartLength(
-            first, second, x,
-        )),
-        _ => LocationTaken::Refused(Error::UnknownLocListsEntry(code)),
+        constants::DW_LLE_offset_pair => Ok(RawLocListEntry::OffsetPair(first, second, x)),
+        constants::DW_LLE_default_location => Ok(RawLocListEntry::DefaultLocation(x)),
+        constants::DW_LLE_base_address => Ok(RawLocListEntry::BaseAddress(first)),
+        constants::DW_LLE_start_end => Ok(RawLocListEntry::StartEnd(first, second, x)),
+        constants::DW_LLE_start_length => Ok(RawLocListEntry::StartLength(first, second, x)),
+        _ => Err(Error::UnknownLocListsEntry(code)),
     }
 }
 
 // 6 with the size before all else, then 4, then the refusals of the address table.
+#[tactic(auto, unfolding(crate::specs::Entries::convert_location))]
 pub fn convert(
     entry: YzLocationEntry,
-    debug_addr: &[u8],
-    debug_addr_base: DebugAddrBase,
+    unit: &Unit,
     walk: Walk,
-    encoding: Encoding,
-    endian: RunTimeEndian,
-) -> LocationConverted
-    ensures { told_converted_location result ≡ convert_location encoding endian debug_addr.now debug_addr_base walk entry }
+) -> (Result<Option<LocationListEntry>, Error>, Walk)
+    ensures { let u = unit.now in told_converted_location result.0 result.1 ≡ convert_location u.encoding u.endian u.debug_addr.now u.debug_addr_base walk entry }
 {
-    let size = encoding.address_size as u64;
-    if section_bytes::reader::is_address_size(size) {
-        return match entry_in(entry) {
-            LocationTaken::Entry(raw) => lists::loclists::convert_raw(
-                raw,
-                debug_addr,
-                debug_addr_base,
-                walk,
-                encoding,
-                endian,
-            ),
-            LocationTaken::Refused(e) => LocationConverted::Refused(e, walk),
-        };
+    let size = unit.encoding.address_size as u64;
+    if !section_bytes::reader::is_address_size(size) {
+        return (Err(Error::UnsupportedAddressSize(size)), walk);
     }
-    LocationConverted::Refused(Error::UnsupportedAddressSize(size), walk)
+    match entry_in(entry) {
+        Ok(raw) => lists::loclists::convert_raw(raw, unit, walk),
+        Err(e) => (Err(e), walk),
+    }
 }
 
-pub fn location_converted(r: LocationConverted, words: &mut WalkWords) -> YzLocation
-    ensures { left result words.new ≡ location_outcome words.old (told_converted_location r) }
+pub fn location_converted(
+    handed: (Result<Option<LocationListEntry>, Error>, Walk),
+    words: &mut WalkWords,
+) -> YzLocation
+    ensures { left result words.new ≡ location_outcome words.old (told_converted_location handed.0 handed.1) }
 {
-    match r {
-        LocationConverted::Location(location, walk) => {
-            super::walks::hand_back(words, walk);
-            location_told(location)
-        }
-        LocationConverted::Nothing(walk) => {
-            super::walks::hand_back(words, walk);
-            no_location(super::common::comes_to(NOTHING))
-        }
-        LocationConverted::Refused(e, walk) => {
-            super::walks::hand_back(words, walk);
-            no_location(super::common::refused(e))
-        }
+    let (answer, walk) = handed;
+    super::walks::hand_back(words, walk);
+    match answer {
+        Ok(Some(location)) => location_told(location),
+        Ok(None) => no_location(super::common::comes_to(NOTHING)),
+        Err(e) => no_location(super::common::refused(e)),
     }
 }

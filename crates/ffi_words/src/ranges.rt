@@ -1,23 +1,21 @@
 // Range lists.
 ghost use Rattle.std.specs.Prelude.{◌≡◌};
+ghost use Rattle.section_bytes.specs.Error.{told_value};
 ghost use Rattle.section_bytes.specs.Read.{gives};
 ghost use Rattle.entries.specs.Filled.{whole};
-ghost use Rattle.lists.specs.Walk.{item, told_next_range, told_raw_range, told_converted_range};
+ghost use Rattle.lists.specs.Walk.{item, told_next_range, told_raw, told_converted_range};
 ghost use Rattle.lists.specs.Risen.{call_raised};
 ghost use Rattle.lookups.specs.Lookup.{told_range_found};
 ghost use Rattle.ffi_words.specs.Walks.{count_in};
 ghost use Rattle.ffi_words.specs.Common.{left};
-ghost use Rattle.ffi_words.specs.Entries.{told_range_taken, entry_only, range_in, raw_range_told, raw_range_next, convert_range};
+ghost use Rattle.ffi_words.specs.Entries.{entry_only, range_in, raw_range_told, raw_range_next, convert_range};
 ghost use Rattle.ffi_words.specs.Ranges.{range_told, no_range, range_next, range_outcome, range_found};
 
 use super::common::{DONE, END, NOT_THERE, NOTHING, YzDone};
 use super::walks::WalkWords;
-use entries::{RawRngListEntry, constants};
-use lists::rnglists::{RangeAnswer, RangeConverted, RawRangeAnswer};
-use lists::{Range, Walk};
-use lookups::RangeFound;
-use section_bytes::common::{DebugAddrBase, DebugAddrIndex, Encoding};
-use section_bytes::endianity::RunTimeEndian;
+use entries::{Noted, RawRngListEntry, constants};
+use lists::{Range, Unit, Walk};
+use section_bytes::common::DebugAddrIndex;
 use section_bytes::error::Error;
 
 #[repr(C)]
@@ -67,32 +65,25 @@ fn no_range(done: YzDone) -> YzRange
 }
 
 // The entries of the call were counted from 0, and are added to those of the walk.
-pub fn range_next(r: RangeAnswer, words: &mut WalkWords) -> YzRange
-    ensures { left result words.new ≡ range_next words.old (call_raised (count_in words.old) (told_next_range r)) }
+pub fn range_next(handed: (Result<Option<Range>, Error>, Walk), words: &mut WalkWords) -> YzRange
+    ensures { left result words.new ≡ range_next words.old (call_raised (count_in words.old) (told_next_range handed.0 handed.1)) }
 {
-    match r {
-        RangeAnswer::Range(range, walk) => {
-            super::walks::hand_on(words, walk);
-            range_told(range)
-        }
-        RangeAnswer::End(walk) => {
-            super::walks::hand_on(words, walk);
-            no_range(super::common::comes_to(END))
-        }
-        RangeAnswer::Refused(e, walk) => {
-            super::walks::hand_on(words, walk);
-            no_range(super::common::refused(e))
-        }
+    let (answer, walk) = handed;
+    super::walks::hand_on(words, walk);
+    match answer {
+        Ok(Some(range)) => range_told(range),
+        Ok(None) => no_range(super::common::comes_to(END)),
+        Err(e) => no_range(super::common::refused(e)),
     }
 }
 
-pub fn range_found(r: RangeFound) -> YzRange
+pub fn range_found(r: Result<Option<Range>, Error>) -> YzRange
     ensures { result ≡ range_found (told_range_found r) }
 {
     match r {
-        RangeFound::Found(range) => range_told(range),
-        RangeFound::NotThere => no_range(super::common::comes_to(NOT_THERE)),
-        RangeFound::Refused(e) => no_range(super::common::refused(e)),
+        Ok(Some(range)) => range_told(range),
+        Ok(None) => no_range(super::common::comes_to(NOT_THERE)),
+        Err(e) => no_range(super::common::refused(e)),
     }
 }
 
@@ -106,6 +97,7 @@ fn numbers(kind: u64, first: u64, second: u64) -> YzRangeEntry
     }
 }
 
+#[tactic(auto, unfolding(entries::specs::Filled::range_of, entries::specs::Kinds::kind_of, entries::specs::Kinds::range_kinds))]
 fn entry_out(raw: RawRngListEntry) -> YzRangeEntry
     ensures { range_in result ≡ gives (whole raw) }
 {
@@ -149,120 +141,88 @@ fn entry_out(raw: RawRngListEntry) -> YzRangeEntry
     }
 }
 
-pub fn raw_range(r: RawRangeAnswer, words: &mut WalkWords) -> YzRawRange
-    ensures { left (raw_range_told result) words.new ≡ raw_range_next words.old (told_raw_range r) }
+pub fn raw_range(
+    handed: (Result<Option<Noted<RawRngListEntry>>, Error>, Walk),
+    words: &mut WalkWords,
+) -> YzRawRange
+    ensures { left (raw_range_told result) words.new ≡ raw_range_next words.old (told_raw handed.0 handed.1) }
 {
-    match r {
-        RawRangeAnswer::Entry(raw, padded, walk) => {
-            super::walks::hand_back(words, walk);
-            YzRawRange {
-                done: super::common::comes_to(DONE),
-                entry: entry_out(raw),
-                padded: padded as u64,
-            }
-        }
-        RawRangeAnswer::End(walk) => {
-            super::walks::hand_back(words, walk);
-            YzRawRange {
-                done: super::common::comes_to(END),
-                entry: numbers(0, 0, 0),
-                padded: 0,
-            }
-        }
-        RawRangeAnswer::Refused(e, walk) => {
-            super::walks::hand_back(words, walk);
-            YzRawRange {
-                done: super::common::refused(e),
-                entry: numbers(0, 0, 0),
-                padded: 0,
-            }
-        }
+    let (answer, walk) = handed;
+    super::walks::hand_back(words, walk);
+    match answer {
+        Ok(Some(noted)) => YzRawRange {
+            done: super::common::comes_to(DONE),
+            entry: entry_out(noted.entry),
+            padded: noted.padded as u64,
+        },
+        Ok(None) => YzRawRange {
+            done: super::common::comes_to(END),
+            entry: numbers(0, 0, 0),
+            padded: 0,
+        },
+        Err(e) => YzRawRange {
+            done: super::common::refused(e),
+            entry: numbers(0, 0, 0),
+            padded: 0,
+        },
     }
 }
 
 // An entry that a caller hands in, or 3 for a code above the kinds.
-#[derive(Clone, Copy)]
-pub enum RangeTaken {
-    Entry(RawRngListEntry),
-    Refused(Error),
-}
-
-pub fn entry_in(entry: YzRangeEntry) -> RangeTaken
-    ensures { told_range_taken result ≡ entry_only (range_in entry) }
+#[tactic(auto, using(entries::proofs::KindLaws::no_range_kind), unfolding(entries::specs::Filled::range_of, entries::specs::Kinds::kind_of, entries::specs::Kinds::range_kinds))]
+pub fn entry_in(entry: YzRangeEntry) -> Result<RawRngListEntry, Error>
+    ensures { told_value result ≡ entry_only (range_in entry) }
 {
     let code = entry.kind;
     let first = entry.first;
     let second = entry.second;
     match code {
-        constants::ADDRESS_OR_OFFSET_PAIR => RangeTaken::Entry(RawRngListEntry::AddressOrOffsetPair(
+        constants::ADDRESS_OR_OFFSET_PAIR => Ok(RawRngListEntry::AddressOrOffsetPair(
             first, second,
         )),
-        constants::DW_RLE_base_addressx => RangeTaken::Entry(RawRngListEntry::BaseAddressx(
-            DebugAddrIndex(first),
-        )),
-        constants::DW_RLE_startx_endx => RangeTaken::Entry(RawRngListEntry::StartxEndx(
+        constants::DW_RLE_base_addressx => Ok(RawRngListEntry::BaseAddressx(DebugAddrIndex(first))),
+        constants::DW_RLE_startx_endx => Ok(RawRngListEntry::StartxEndx(
             DebugAddrIndex(first),
             DebugAddrIndex(second),
         )),
-        constants::DW_RLE_startx_length => RangeTaken::Entry(RawRngListEntry::StartxLength(
+        constants::DW_RLE_startx_length => Ok(RawRngListEntry::StartxLength(
             DebugAddrIndex(first),
             second,
         )),
-        constants::DW_RLE_offset_pair => RangeTaken::Entry(RawRngListEntry::OffsetPair(
-            first, second,
-        )),
-        constants::DW_RLE_base_address => RangeTaken::Entry(RawRngListEntry::BaseAddress(first)),
-        constants::DW_RLE_start_end => RangeTaken::Entry(RawRngListEntry::StartEnd(first, second)),
-        constants::DW_RLE_start_length => RangeTaken::Entry(RawRngListEntry::StartLength(
-            first, second,
-        )),
-        _ => RangeTaken::Refused(Error::UnknownRangeListsEntry(code)),
+        constants::DW_RLE_offset_pair => Ok(RawRngListEntry::OffsetPair(first, second)),
+        constants::DW_RLE_base_address => Ok(RawRngListEntry::BaseAddress(first)),
+        constants::DW_RLE_start_end => Ok(RawRngListEntry::StartEnd(first, second)),
+        constants::DW_RLE_start_length => Ok(RawRngListEntry::StartLength(first, second)),
+        _ => Err(Error::UnknownRangeListsEntry(code)),
     }
 }
 
 // 6 with the size before all else, then 3, then the refusals of the address table.
-pub fn convert(
-    entry: YzRangeEntry,
-    debug_addr: &[u8],
-    debug_addr_base: DebugAddrBase,
-    walk: Walk,
-    encoding: Encoding,
-    endian: RunTimeEndian,
-) -> RangeConverted
-    ensures { told_converted_range result ≡ convert_range encoding endian debug_addr.now debug_addr_base walk entry }
+#[tactic(auto, unfolding(crate::specs::Entries::convert_range))]
+pub fn convert(entry: YzRangeEntry, unit: &Unit, walk: Walk) -> (Result<Option<Range>, Error>, Walk)
+    ensures { let u = unit.now in told_converted_range result.0 result.1 ≡ convert_range u.encoding u.endian u.debug_addr.now u.debug_addr_base walk entry }
 {
-    let size = encoding.address_size as u64;
-    if section_bytes::reader::is_address_size(size) {
-        return match entry_in(entry) {
-            RangeTaken::Entry(raw) => lists::rnglists::convert_raw(
-                raw,
-                debug_addr,
-                debug_addr_base,
-                walk,
-                encoding,
-                endian,
-            ),
-            RangeTaken::Refused(e) => RangeConverted::Refused(e, walk),
-        };
+    let size = unit.encoding.address_size as u64;
+    if !section_bytes::reader::is_address_size(size) {
+        return (Err(Error::UnsupportedAddressSize(size)), walk);
     }
-    RangeConverted::Refused(Error::UnsupportedAddressSize(size), walk)
+    match entry_in(entry) {
+        Ok(raw) => lists::rnglists::convert_raw(raw, unit, walk),
+        Err(e) => (Err(e), walk),
+    }
 }
 
-pub fn range_converted(r: RangeConverted, words: &mut WalkWords) -> YzRange
-    ensures { left result words.new ≡ range_outcome words.old (told_converted_range r) }
+pub fn range_converted(
+    handed: (Result<Option<Range>, Error>, Walk),
+    words: &mut WalkWords,
+) -> YzRange
+    ensures { left result words.new ≡ range_outcome words.old (told_converted_range handed.0 handed.1) }
 {
-    match r {
-        RangeConverted::Range(range, walk) => {
-            super::walks::hand_back(words, walk);
-            range_told(range)
-        }
-        RangeConverted::Nothing(walk) => {
-            super::walks::hand_back(words, walk);
-            no_range(super::common::comes_to(NOTHING))
-        }
-        RangeConverted::Refused(e, walk) => {
-            super::walks::hand_back(words, walk);
-            no_range(super::common::refused(e))
-        }
+    let (answer, walk) = handed;
+    super::walks::hand_back(words, walk);
+    match answer {
+        Ok(Some(range)) => range_told(range),
+        Ok(None) => no_range(super::common::comes_to(NOTHING)),
+        Err(e) => no_range(super::common::refused(e)),
     }
 }

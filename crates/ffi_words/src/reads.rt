@@ -1,13 +1,13 @@
 // Numbers read at a place of a section.
 ghost use Rattle.std.specs.Prelude.{◌≡◌};
-ghost use Rattle.section_bytes.specs.Error.{told, told_place, told_split, told_length};
-ghost use Rattle.section_bytes.specs.Padded.{told_number};
+ghost use Rattle.section_bytes.specs.Error.{told, told_place};
 ghost use Rattle.ffi_words.specs.Common.{done};
 ghost use Rattle.ffi_words.specs.Reads.{number_told, no_number, number_read, leb128_read, number_only, place_read, part_read, length_read};
 
 use super::common::{DONE, YzDone, YzPart};
-use section_bytes::leb128::NumberAnswer;
-use section_bytes::{InitialLength, Num, Place, Split};
+use section_bytes::error::Error;
+use section_bytes::leb128::Number;
+use section_bytes::{Read, Span, UnitLength};
 
 // A number.
 #[repr(C)]
@@ -79,16 +79,16 @@ pub fn no_number(done: YzDone) -> YzNumber
     YzNumber { done, number: 0 }
 }
 
-pub fn read_number(r: Num) -> YzRead
+pub fn read_number(r: Read<u64>) -> YzRead
     ensures { result ≡ number_read (told r) }
 {
     match r {
-        Num::Got(number, c) => YzRead {
+        Ok((number, c)) => YzRead {
             done: super::common::comes_to(DONE),
             next: c as u64,
             number,
         },
-        Num::Refused(e) => YzRead {
+        Err(e) => YzRead {
             done: super::common::refused(e),
             next: 0,
             number: 0,
@@ -96,18 +96,18 @@ pub fn read_number(r: Num) -> YzRead
     }
 }
 
-pub fn read_leb128(r: NumberAnswer) -> YzLeb128
-    ensures { result ≡ leb128_read (told_number r) }
+pub fn read_leb128(r: Read<Number>) -> YzLeb128
+    ensures { result ≡ leb128_read (told r) }
 {
     match r {
-        NumberAnswer::Got(x, c) => YzLeb128 {
+        Ok((x, c)) => YzLeb128 {
             done: super::common::comes_to(DONE),
             next: c as u64,
             number: x.value,
             length: x.len as u64,
             padded: x.padded as u64,
         },
-        NumberAnswer::Refused(e) => YzLeb128 {
+        Err(e) => YzLeb128 {
             done: super::common::refused(e),
             next: 0,
             number: 0,
@@ -118,35 +118,35 @@ pub fn read_leb128(r: NumberAnswer) -> YzLeb128
 }
 
 // The number without the place.
-pub fn number_only(r: Num) -> YzNumber
+pub fn number_only(r: Read<u64>) -> YzNumber
     ensures { result ≡ number_only (told r) }
 {
     match r {
-        Num::Got(v, _) => number(v),
-        Num::Refused(e) => no_number(super::common::refused(e)),
+        Ok((v, _)) => number(v),
+        Err(e) => no_number(super::common::refused(e)),
     }
 }
 
-pub fn read_place(r: Place) -> YzPlace
+pub fn read_place(r: Result<usize, Error>) -> YzPlace
     ensures { result ≡ place_read (told_place r) }
 {
     match r {
-        Place::At(c) => YzPlace {
+        Ok(c) => YzPlace {
             done: super::common::comes_to(DONE),
             next: c as u64,
         },
-        Place::Refused(e) => YzPlace {
+        Err(e) => YzPlace {
             done: super::common::refused(e),
             next: 0,
         },
     }
 }
 
-pub fn read_part(r: Split) -> YzSplitPart
-    ensures { result ≡ part_read (told_split r) }
+pub fn read_part(r: Read<Span>) -> YzSplitPart
+    ensures { result ≡ part_read (told r) }
 {
     match r {
-        Split::Got(span, c) => YzSplitPart {
+        Ok((span, c)) => YzSplitPart {
             done: super::common::comes_to(DONE),
             next: c as u64,
             part: YzPart {
@@ -154,7 +154,7 @@ pub fn read_part(r: Split) -> YzSplitPart
                 length: span.len as u64,
             },
         },
-        Split::Refused(e) => YzSplitPart {
+        Err(e) => YzSplitPart {
             done: super::common::refused(e),
             next: 0,
             part: super::common::no_part(),
@@ -162,11 +162,11 @@ pub fn read_part(r: Split) -> YzSplitPart
     }
 }
 
-pub fn read_length(r: InitialLength) -> YzUnitLength
-    ensures { result ≡ length_read (told_length r) }
+pub fn read_length(r: Read<UnitLength>) -> YzUnitLength
+    ensures { result ≡ length_read (told r) }
 {
     match r {
-        InitialLength::Got(length, c) => {
+        Ok((length, c)) => {
             let format = length.format;
             YzUnitLength {
                 done: super::common::comes_to(DONE),
@@ -175,7 +175,7 @@ pub fn read_length(r: InitialLength) -> YzUnitLength
                 dwarf64: super::common::is_dwarf64(format) as u64,
             }
         }
-        InitialLength::Refused(e) => YzUnitLength {
+        Err(e) => YzUnitLength {
             done: super::common::refused(e),
             next: 0,
             length: 0,

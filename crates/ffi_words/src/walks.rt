@@ -1,15 +1,16 @@
 // A walk in lent words: its place, its base address, how many raw entries it has read, and whether its list is split. A call
 // hands a walk back in the same words and leaves the last as it is.
 ghost use Rattle.std.specs.Prelude.{◌≡◌};
-ghost use Rattle.lists.specs.Open.{told_opened};
+ghost use Rattle.section_bytes.specs.Error.{told_value};
 ghost use Rattle.ffi_words.specs.Common.{file_of, left};
 ghost use Rattle.lists.specs.Uncounted.{uncounted};
 ghost use Rattle.lists.specs.Risen.{raised};
 ghost use Rattle.ffi_words.specs.Walks.{walk_in, count_in, split_in, handed_back, opened_words};
 
 use super::common::YzDone;
-use lists::{Opened, Walk};
+use lists::Walk;
 use section_bytes::common::DwarfFileType;
+use section_bytes::error::Error;
 
 pub type WalkWords = [u64; 4];
 
@@ -58,11 +59,11 @@ pub fn hand_on(words: &mut WalkWords, walk: Walk)
 }
 
 // A list that was opened; a refused opening leaves the words as they were.
-pub fn opened(r: Opened, split: bool, words: &mut WalkWords) -> YzDone
-    ensures { left result words.new ≡ opened_words words.old split (told_opened r) }
+pub fn opened(r: Result<Walk, Error>, split: bool, words: &mut WalkWords) -> YzDone
+    ensures { left result words.new ≡ opened_words words.old split (told_value r) }
 {
     match r {
-        Opened::List(walk) => {
+        Ok(walk) => {
             *words = [
                 walk.at as u64,
                 walk.base_address,
@@ -71,6 +72,6 @@ pub fn opened(r: Opened, split: bool, words: &mut WalkWords) -> YzDone
             ];
             super::common::comes_to(super::common::DONE)
         }
-        Opened::Refused(e) => super::common::refused(e),
+        Err(e) => super::common::refused(e),
     }
 }

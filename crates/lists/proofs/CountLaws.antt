@@ -7,6 +7,7 @@ use mathlib.Core.Logic.{⊎_elim}
 use Prim.Native.Nat.{ℕ, zero, suc, ◌+◌, ◌-◌, ◌^◌, ◌≤◌, ◌<◌}
 use native.Mathlib.Omega.{arith}
 use lib.Dec.{leb}
+use Rattle.std.specs.Prelude.{min}
 use lib.ListN.{length}
 use borrow.Author.Tests.{le-leb, lt-leb, leb-false}
 use Rattle.section_bytes.specs.Read.{Result, gives, refused, got, Read, pick}
@@ -29,7 +30,7 @@ use Rattle.lists.proofs.OpenLaws.{opened_size, opened_as}
 use Rattle.lists.proofs.WalkLaws.{Moved, pick_else, trace_ind}
 use Rattle.lists.proofs.Past.{listed_past}
 
--- one more, as the code has it
+-- one more, below the highest count and there; and as the code has it
 pub one_more_stays : (n : ℕ) → 2 ^ 64 - 1 ≤ n → one_more n ≡ n
 unfolding one_more
 one_more_stays n h = simp (le-leb _ _ h)
@@ -37,6 +38,9 @@ one_more_stays n h = simp (le-leb _ _ h)
 pub one_more_rises : (n : ℕ) → n < 2 ^ 64 - 1 → one_more n ≡ suc n
 unfolding one_more
 one_more_rises n h = simp (lt-leb _ _ h)
+
+pub one_more_is : (n : ℕ) → n ≤ 2 ^ 64 - 1 → one_more n ≡ min (n + 1) (2 ^ 64 - 1)
+one_more_is n h = ⊎_elim (λ p. one_more_rises n p ∙ omega arith) (λ p. one_more_stays n p ∙ omega arith) (lt_or_le n (2 ^ 64 - 1))
 
 module _ (l : Listing) (len : ℕ) (past : (at : ℕ) → at < len → Moved at len (l.read at)) where
   entry_cong : (at : ℕ) (r : Read (Raw l.Entry)) (f g : ℕ → ℕ) → Moved at len r → ((c : ℕ) → at < c → f c ≡ g c) → on_entry r f ≡ on_entry r g

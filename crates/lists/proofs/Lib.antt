@@ -11,4 +11,5 @@ pub mod Local
 pub mod SizeLaws
 pub mod CountLaws
 pub mod RisenLaws
+pub mod NextLaws
 pub mod RenumberedLaws

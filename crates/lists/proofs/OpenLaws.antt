@@ -1,4 +1,4 @@
--- A list that opens has an address size that is read and lies in its section; and what follows an opening, by its answer. Assumes nothing.
+-- A list that opens has an address size that is read and lies in its section. Assumes nothing.
 use mathlib.Core.Path.{◌≡◌, refl, subst}
 use mathlib.Core.Bool.{Bool, true, false}
 use mathlib.Core.List.{List}
@@ -8,23 +8,12 @@ use lib.Dec.{leb}
 use borrow.Author.Tests.{leb-true}
 use lib.ListN.{length}
 use Rattle.section_bytes.specs.Error.{refusal}
-use Rattle.section_bytes.specs.Read.{Result, gives, refused, and_then, pick}
+use Rattle.section_bytes.specs.Read.{Result, gives, refused, pick}
 use Rattle.section_bytes.specs.Reader.{is_size}
 use Rattle.section_bytes.specs.declared.common.Encoding.{Encoding}
-use Rattle.section_bytes.specs.declared.error.Error.{Error}
 use Rattle.section_bytes.specs.declared.error.Error.TheVariants.{UnexpectedEof}
-use Rattle.lists.specs.Open.{walk_at, told_opened, opened}
+use Rattle.lists.specs.Open.{walk_at, opened}
 use Rattle.lists.specs.declared.Walk.{Walk}
-use Rattle.lists.specs.declared.Opened.{Opened}
-use Rattle.lists.specs.declared.Opened.TheVariants as answer
-
--- an opening taken apart: its walk goes on, or its refusal is the answer
-module _ {B : Type 0} {r : Opened} {d : Result Walk} (f : Walk → Result B) (p : told_opened r ≡ d) where
-  pub list_then : {w : Walk} → r ≡ answer.List w → and_then d f ≡ f w
-  list_then q = rw (← p, q)
-
-  pub no_list_then : {e : Error} → r ≡ answer.Refused e → and_then d f ≡ refusal e
-  no_list_then q = rw (← p, q)
 
 pub opened_size : (encoding : Encoding) (s : List ℕ) (offset base : ℕ) {w : Walk} → opened encoding s offset base ≡ gives w → is_size encoding.address_size ≡ true
 unfolding opened

@@ -8,6 +8,7 @@ use Prim.Native.Nat.{ℕ, zero, suc, ◌+◌, ◌-◌, ◌^◌, ◌≤◌}
 use native.Mathlib.Numerals.{add-one}
 use native.Mathlib.Omega.{arith}
 use lib.Dec.{leb}
+use Rattle.std.specs.Prelude.{min}
 use lib.ListN.{length}
 use Rattle.section_bytes.specs.Read.{Result, gives, refused, got, Read}
 use Rattle.section_bytes.specs.Reader.{is_size}
@@ -36,15 +37,15 @@ risen_one n k = refl
 pub risen_next : (n k : ℕ) → risen_by n (k + 1) ≡ one_more (risen_by n k)
 risen_next n k = ap (risen_by n) (add-one k) ∙ risen_one n k
 
--- as the code adds: the sum, or 2^64 - 1 where it would pass that
-pub risen_sum : (n k : ℕ) → n + k ≤ 2 ^ 64 - 1 → risen_by n k ≡ n + k
+-- the sum, or 2^64 - 1 where it would pass that; and as the code has it
+risen_sum : (n k : ℕ) → n + k ≤ 2 ^ 64 - 1 → risen_by n k ≡ n + k
 unfolding risen_by
 risen_sum n zero h = omega arith
 risen_sum n (suc k) h =
     let e = risen_sum n k (omega arith) in
     rw e (one_more_rises (n + k) (omega arith) ∙ omega arith)
 
-pub risen_full : (n k : ℕ) → n ≤ 2 ^ 64 - 1 → 2 ^ 64 - 1 ≤ n + k → risen_by n k ≡ 2 ^ 64 - 1
+risen_full : (n k : ℕ) → n ≤ 2 ^ 64 - 1 → 2 ^ 64 - 1 ≤ n + k → risen_by n k ≡ 2 ^ 64 - 1
 unfolding risen_by
 risen_full n zero h f = omega arith
 risen_full n (suc k) h f =
@@ -52,6 +53,9 @@ risen_full n (suc k) h f =
     (λ p. let e : risen_by n k ≡ n + k = risen_sum n k (omega arith) in let z : suc (n + k) ≡ 2 ^ 64 - 1 = omega arith in rw e (one_more_rises (n + k) p ∙ z))
     (λ p. let e = risen_full n k h p in rw e (one_more_stays (2 ^ 64 - 1) (omega arith)))
     (lt_or_le (n + k) (2 ^ 64 - 1))
+
+pub risen_is : (n k : ℕ) → n ≤ 2 ^ 64 - 1 → risen_by n k ≡ min (n + k) (2 ^ 64 - 1)
+risen_is n k h = ⊎_elim (λ p. risen_full n k h (omega arith) ∙ omega arith) (λ p. risen_sum n k p ∙ omega arith) (lt_or_le (2 ^ 64 - 1) (n + k))
 
 -- as many are counted at least, as long as a count rises
 risen_least : (n k m : ℕ) → m ≤ k → m ≤ 2 ^ 64 - 1 → m ≤ risen_by n k

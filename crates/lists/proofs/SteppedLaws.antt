@@ -8,33 +8,51 @@ use native.Mathlib.Omega.{arith}
 use borrow.Author.Tests.{le-leb, lt-leb}
 use lib.Dec.{leb}
 use Rattle.section_bytes.specs.Read.{Result, gives, refused, got, Read, pick}
+use Rattle.section_bytes.specs.Error.{refusal}
 use Rattle.section_bytes.specs.declared.common.DebugAddrIndex.{DebugAddrIndex}
+use Rattle.section_bytes.specs.declared.error.Error.{Error}
 use Rattle.section_bytes.proofs.Order.{lt_or_le}
 use Rattle.entries.specs.Forms.{Raw, stop, entry}
-use Rattle.entries.specs.Listed.{entry_in}
+use Rattle.entries.specs.Listed.{EntryIn, entry_in, read_in}
+use Rattle.entries.specs.Numbers.{Coding}
+use Rattle.entries.specs.Told as told
+use Rattle.entries.specs.Told.{found, step_of}
 use Rattle.entries.specs.declared.Expression.{Expression}
 use Rattle.entries.specs.declared.RawLocListEntry.{RawLocListEntry}
+use Rattle.entries.specs.declared.RawRngListEntry.{RawRngListEntry}
 use Rattle.lists.specs.Open.{moved_to, read_to, rebased}
-use Rattle.lists.specs.Convert.{Turn, range, rebase, skip, convert, expression_of}
-use Rattle.lists.specs.Walk.{Listing, CarriedIn, data_in, Item, Trace, over, handed, on_turn, on_read, trace}
-use Rattle.lists.specs.Steps.{Step, yields, rebases, passes, fails, ended, turned, on_entry, step, Located, is_default_in, located_in}
+use Rattle.lists.specs.Convert.{Turn, range, rebase, skip, convert, table_in, bounds, expression_of}
+use Rattle.lists.specs.Walk.{Listing, CarriedIn, bounds_in, data_in, listed, Item, Trace, over, handed, on_turn, on_read, trace}
+use Rattle.lists.specs.Steps.{Step, yields, rebases, passes, fails, ended, turned, on_entry, step, step_in_unit, Located, is_default_in, located_in}
+use Rattle.lists.specs.Walks.{carried_as}
+use Rattle.lists.specs.declared.Unit.{Unit as DwarfUnit}
 use Rattle.lists.specs.declared.Walk.{Walk}
-use Rattle.lists.proofs.ListedLaws.{carried_in_lem}
+use Rattle.lists.proofs.ListedLaws.{bounds_in_lem, carried_in_lem}
 use Rattle.lists.proofs.WalkLaws.{Moved, trace_over, trace_step}
 
-module _ (l : Listing) (table : DebugAddrIndex → Result ℕ) (size at base : ℕ) where
-  pub step_refused : {n : ℕ} {vs : List ℕ} → l.read at ≡ refused n vs → refused n vs ≡ step l table size at base
-  unfolding step
-  step_refused q = sym (ap (on_entry l table size base) q)
+-- a step, by what the code reads there and what that comes to
+module _ (l : Bool) (coding : Coding) (s : List ℕ) (u : DwarfUnit) (at base : ℕ) where
+  abbrev taken : Result (told.Step (EntryIn l)) → Result (Step (Located (CarriedIn l)))
+  taken (gives (found e c)) = gives (turned (convert (table_in u) u.encoding.address_size base (bounds_in l e)) (located_in l e) c)
+  taken (gives told.ended) = gives ended
+  taken (refused n vs) = refused n vs
 
-  pub step_over : {c : ℕ} → l.read at ≡ gives (got stop c) → gives ended ≡ step l table size at base
-  unfolding step
-  step_over q = sym (ap (on_entry l table size base) q)
+  step_taken : (r : Read (Raw (EntryIn l))) → taken (step_of r) ≡ on_entry (carried_as (listed l coding u.encoding u.endian s) (located_in l)) (table_in u) u.encoding.address_size base r
+  step_taken (gives (got (entry e) c)) = refl
+  step_taken (gives (got stop c)) = refl
+  step_taken (refused n vs) = refl
 
-  pub step_turned : {e : l.Entry} {c : ℕ} {t : Result Turn} {d : l.Carried} → l.read at ≡ gives (got (entry e) c) → t ≡ convert table size base (l.bounds_of e) → d ≡ l.carried e
-      → gives (turned t d c) ≡ step l table size at base
+  pub step_told : {t : Result (told.Step (EntryIn l))} → t ≡ step_of (read_in l coding u.encoding u.endian s at) → taken t ≡ step_in_unit l coding s u at base
   unfolding step
-  step_turned q f g = rw (f, g) (sym (ap (on_entry l table size base) q))
+  step_told q = ap taken q ∙ step_taken (read_in l coding u.encoding u.endian s at)
+
+  pub step_refused : (e : Error) → refusal e ≡ step_of (read_in l coding u.encoding u.endian s at) → refusal e ≡ step_in_unit l coding s u at base
+  step_refused e q = step_told q
+
+  pub step_turned : (raw : RawLocListEntry) {c : ℕ} {b : RawRngListEntry} {t : Result Turn} {d : Located (CarriedIn l)}
+      → gives (found (entry_in l raw) c) ≡ step_of (read_in l coding u.encoding u.endian s at) → b ≡ bounds raw → t ≡ convert (table_in u) u.encoding.address_size base b
+      → d ≡ located_in l (entry_in l raw) → gives (turned t d c) ≡ step_in_unit l coding s u at base
+  step_turned raw q f g h = rw (h, g, f, ← bounds_in_lem l raw) (step_told q)
 
 pub located_is : (l : Bool) (e : RawLocListEntry) {x : Expression} {t : Bool} → x ≡ expression_of e → t ≡ is_default_in l (entry_in l e)
     → ◌≡◌ {A = Located (CarriedIn l)} (record { carries = data_in l x; by_default = t }) (located_in l (entry_in l e))

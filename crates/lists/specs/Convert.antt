@@ -1,5 +1,7 @@
 -- What a raw entry comes to (DWARF 5, 2.17.3 and 2.6.2): one definition for both lists. The skips are gimli's.
-use Rattle.std.specs.Prelude.{ℕ, List, leb}
+use Rattle.std.specs.Prelude.{ℕ, List, leb, Ok, Err}
+use Rattle.std.specs.declared.result.Result.{Result as Answer}
+use Rattle.section_bytes.specs.declared.error.Error.{Error}
 use Rattle.section_bytes.specs.Read.{Result, gives, and_then, pick}
 use Rattle.section_bytes.specs.Error.{refusal}
 use Rattle.section_bytes.specs.Address.{add_sized, min_tombstone}
@@ -8,8 +10,6 @@ use Rattle.section_bytes.specs.declared.common.DebugAddrIndex.{DebugAddrIndex}
 use Rattle.section_bytes.specs.declared.common.Encoding.{Encoding}
 use Rattle.section_bytes.specs.declared.endianity.RunTimeEndian.{RunTimeEndian}
 use Rattle.tables.specs.Addr.{address_at}
-use Rattle.tables.specs.declared.addr.AddressAnswer.{AddressAnswer}
-use Rattle.tables.specs.declared.addr.AddressAnswer.TheVariants as address
 pub use Rattle.entries.specs.Listed.{bounds, no_expression}
 use Rattle.entries.specs.declared.Expression.{Expression}
 use Rattle.entries.specs.declared.RawRngListEntry.{RawRngListEntry}
@@ -25,6 +25,7 @@ use Rattle.entries.specs.declared.RawRngListEntry.TheVariants.{
 }
 use Rattle.entries.specs.declared.RawLocListEntry.{RawLocListEntry}
 use Rattle.entries.specs.declared.RawLocListEntry.TheVariants as loc
+use Rattle.lists.specs.declared.Unit.{Unit as DwarfUnit}
 use Rattle.lists.specs.declared.convert.Converted.{Converted}
 use Rattle.lists.specs.declared.convert.Converted.TheVariants as code
 use Rattle.lists.specs.declared.convert.Unchecked.{Unchecked}
@@ -36,11 +37,11 @@ pub data Turn : Type 0 where
   rebase : ℕ → Turn
   skip : Turn
 
-abbrev pub told_turn : Converted → Result Turn
-told_turn (code.Range r) = gives (range r.begin r.end)
-told_turn (code.Base a) = gives (rebase a)
-told_turn code.Skip = gives skip
-told_turn (code.Refused e) = refusal e
+abbrev pub told_turn : Answer Converted Error → Result Turn
+told_turn (Ok (code.Range r)) = gives (range r.begin r.end)
+told_turn (Ok (code.Base a)) = gives (rebase a)
+told_turn (Ok code.Skip) = gives skip
+told_turn (Err e) = refusal e
 
 -- a range is skipped when its begin is at or above the tombstone bound, or not below its end. gimli's reason: DWARF's tombstones are
 -- the two highest addresses, but linkers write 0 or 1 too, which may be real addresses and are not skipped as such; a pair of which
@@ -54,18 +55,18 @@ offsets size base b e =
     pick (leb (min_tombstone size) base) (gives skip) (bounded size (add_sized base b size) (add_sized base e size))
 
 -- what the code has of an entry before its range is looked at
-abbrev pub told_unchecked : ℕ → Unchecked → Result Turn
-told_unchecked size (unchecked.Range b e) = bounded size b e
-told_unchecked size (unchecked.Other r) = told_turn r
-
--- a refusal handed on by the code
-abbrev pub passed_of : AddressAnswer → Unchecked
-passed_of (address.Address a) = unchecked.Other code.Skip
-passed_of (address.Refused e) = unchecked.Other (code.Refused e)
+abbrev pub told_unchecked : ℕ → Answer Unchecked Error → Result Turn
+told_unchecked size (Ok (unchecked.Range b e)) = bounded size b e
+told_unchecked size (Ok (unchecked.Other r)) = told_turn (Ok r)
+told_unchecked size (Err e) = refusal e
 
 -- the address of an index, in the table that a list is read with
 abbrev pub table_at : RunTimeEndian → Encoding → DebugAddrBase → List ℕ → DebugAddrIndex → Result ℕ
 table_at endian encoding tableBase table i = address_at endian encoding.address_size tableBase i table
+
+-- in a unit's table
+abbrev pub table_in : DwarfUnit → DebugAddrIndex → Result ℕ
+table_in u i = table_at u.endian u.encoding u.debug_addr_base u.debug_addr.now i
 
 -- by the address table's answers, the size and the base address; a begin is looked up before its end
 unfoldable pub convert : (DebugAddrIndex → Result ℕ) → ℕ → ℕ → RawRngListEntry → Result Turn

@@ -6,8 +6,6 @@ use Rattle.section_bytes.specs.Reader.{is_size}
 use Rattle.section_bytes.specs.declared.common.Encoding.{Encoding}
 use Rattle.section_bytes.specs.declared.error.Error.TheVariants.{UnexpectedEof, UnsupportedAddressSize}
 use Rattle.lists.specs.declared.Walk.{Walk}
-use Rattle.lists.specs.declared.Opened.{Opened}
-use Rattle.lists.specs.declared.Opened.TheVariants as answer
 
 abbrev pub walk_at : ℕ → ℕ → ℕ → Walk
 walk_at at base entries = record { at = at; base_address = base; entries = entries }
@@ -32,10 +30,6 @@ unfoldable pub opened : Encoding → List ℕ → ℕ → ℕ → Result Walk
 opened encoding s offset base =
     pick (is_size encoding.address_size) (pick (leb offset (length s)) (gives (walk_at offset base 0)) (refusal UnexpectedEof))
     (refusal (UnsupportedAddressSize encoding.address_size))
-
-abbrev pub told_opened : Opened → Result Walk
-told_opened (answer.List w) = gives w
-told_opened (answer.Refused e) = refusal e
 
 -- of what there is for the older section and for the newer one, that of the unit: lists of version 5 and above stand in a section of
 -- their own (DWARF 5, 7.28 and 7.29)

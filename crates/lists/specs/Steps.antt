@@ -1,6 +1,9 @@
 -- One entry of a list, and what it comes to under a base address: what lookups go by where `next` would not say which entry a location
 -- comes from, or how many entries were read.
-use Rattle.std.specs.Prelude.{ℕ, Bool, true, false, List}
+use Rattle.std.specs.Prelude.{ℕ, Bool, true, false, List, Some, None, Ok, Err}
+use Rattle.std.specs.declared.option.Option.{Option}
+use Rattle.std.specs.declared.result.Result.{Result as Answer}
+use Rattle.section_bytes.specs.declared.error.Error.{Error}
 use Rattle.section_bytes.specs.Read.{Result, gives, refused, got, Read}
 use Rattle.section_bytes.specs.Error.{refusal, number, values}
 use Rattle.section_bytes.specs.declared.common.DebugAddrBase.{DebugAddrBase}
@@ -15,8 +18,9 @@ use Rattle.entries.specs.Numbers.{Coding, dwarf}
 use Rattle.lists.specs.Convert.{Turn, range, rebase, skip, convert, table_at}
 use Rattle.lists.specs.Walk.{Listing, CarriedIn, carried_in, data_in, listed, Item, item}
 use Rattle.lists.specs.Walks.{is_default, carried_as}
-use Rattle.lists.specs.declared.loclists.Stepped.{Stepped}
-use Rattle.lists.specs.declared.loclists.Stepped.TheVariants as code
+use Rattle.lists.specs.declared.Unit.{Unit as DwarfUnit}
+use Rattle.lists.specs.declared.listed.Stepped.{Stepped}
+use Rattle.lists.specs.declared.listed.Stepped.TheVariants as code
 
 -- what an entry comes to, with the place after it: an item, another base address, nothing, a failed address lookup; or the end
 pub data Step (D : Type 0) : Type 0 where
@@ -61,18 +65,24 @@ abbrev pub step_of : (l : Bool) → Coding → Encoding → RunTimeEndian → Li
 step_of l coding encoding endian s table tableBase at base =
     step (carried_as (listed l coding encoding endian s) (located_in l)) (table_at endian encoding tableBase table) encoding.address_size at base
 
+abbrev pub step_in_unit : (l : Bool) → Coding → List ℕ → DwarfUnit → ℕ → ℕ → Result (Step (Located (CarriedIn l)))
+step_in_unit l coding s u at base = step_of l coding u.encoding u.endian s u.debug_addr.now u.debug_addr_base at base
+
 abbrev pub location_step : Bool → Encoding → RunTimeEndian → List ℕ → List ℕ → DebugAddrBase → ℕ → ℕ → Result (Step (Located Expression))
 location_step split encoding endian s table tableBase at base = step_of true (dwarf split) encoding endian s table tableBase at base
 
 -- the code's answer told as the definition's
-abbrev pub told_stepped : Stepped → Result (Step (Located Expression))
-told_stepped (code.Bounded x c) = gives (yields (item x.range.begin x.range.end (record { carries = x.«data»; by_default = false })) c)
-told_stepped (code.Default x c) = gives (yields (item x.range.begin x.range.end (record { carries = x.«data»; by_default = true })) c)
-told_stepped (code.Base b c) = gives (rebases b c)
-told_stepped (code.Nothing c) = gives (passes c)
-told_stepped (code.Failed e c) = gives (fails (number e) (values e) c)
-told_stepped code.End = gives ended
-told_stepped (code.Refused e) = refusal e
+abbrev pub stepped_to : Stepped → ℕ → Step (Located Expression)
+stepped_to (code.Bounded x) c = yields (item x.range.begin x.range.end (record { carries = x.«data»; by_default = false })) c
+stepped_to (code.Default x) c = yields (item x.range.begin x.range.end (record { carries = x.«data»; by_default = true })) c
+stepped_to (code.Base b) c = rebases b c
+stepped_to code.Nothing c = passes c
+stepped_to (code.Failed e) c = fails (number e) (values e) c
+
+abbrev pub told_stepped : Answer (Option (Stepped × ℕ)) Error → Result (Step (Located Expression))
+told_stepped (Ok (Some p)) = gives (stepped_to p.0 p.1)
+told_stepped (Ok None) = gives ended
+told_stepped (Err e) = refusal e
 
 -- and as its list's
 abbrev pub stepped_in : (l : Bool) → Result (Step (Located Expression)) → Result (Step (Located (CarriedIn l)))

@@ -1,5 +1,8 @@
 -- What a list does, from its bytes alone, and what each call of a walk hands out: one definition for both lists.
-use Rattle.std.specs.Prelude.{ℕ, zero, suc, List, Bool, true, false, length, leb}
+use Rattle.std.specs.Prelude.{ℕ, zero, suc, List, Bool, true, false, length, leb, Some, None, Ok, Err}
+use Rattle.std.specs.Borrow.{Bor}
+use Rattle.std.specs.declared.option.Option.{Option}
+use Rattle.std.specs.declared.result.Result.{Result as Answer}
 use Rattle.section_bytes.specs.Read.{Result, gives, refused, got, Read, pick}
 use Rattle.section_bytes.specs.Error.{refusal}
 use Rattle.section_bytes.specs.Reader.{is_size}
@@ -7,30 +10,23 @@ use Rattle.section_bytes.specs.declared.common.DebugAddrBase.{DebugAddrBase}
 use Rattle.section_bytes.specs.declared.common.DebugAddrIndex.{DebugAddrIndex}
 use Rattle.section_bytes.specs.declared.common.Encoding.{Encoding}
 use Rattle.section_bytes.specs.declared.endianity.RunTimeEndian.{RunTimeEndian}
+use Rattle.section_bytes.specs.declared.error.Error.{Error}
 use Rattle.section_bytes.specs.declared.error.Error.TheVariants.{UnsupportedAddressSize}
 use Rattle.tables.specs.Next.{Next, ends, hands}
 use Rattle.entries.specs.Forms.{Raw, stop, entry}
-use Rattle.entries.specs.Numbers.{Coding, dwarf, tabled}
+use Rattle.entries.specs.Numbers.{Coding, dwarf, tabled, numbers_of}
 use Rattle.entries.specs.Listed.{EntryIn, entry_in, read_in}
-use Rattle.entries.specs.Padded.{Noted, padded_in}
+use Rattle.entries.specs.Padded.{Noted, noted_as, padded_in}
+use Rattle.entries.specs.declared.Noted as code
 use Rattle.entries.specs.declared.Expression.{Expression}
 use Rattle.entries.specs.declared.RawRngListEntry.{RawRngListEntry}
 use Rattle.entries.specs.declared.RawLocListEntry.{RawLocListEntry}
 use Rattle.lists.specs.Open.{moved_to, read_to, rebased}
 use Rattle.lists.specs.Convert.{Turn, range, rebase, skip, convert, table_at, bounds, expression_of}
+use Rattle.lists.specs.declared.Unit.{Unit as DwarfUnit}
 use Rattle.lists.specs.declared.Walk.{Walk}
-use Rattle.lists.specs.declared.rnglists.RawRangeAnswer.{RawRangeAnswer}
-use Rattle.lists.specs.declared.rnglists.RawRangeAnswer.TheVariants as rawRng
-use Rattle.lists.specs.declared.rnglists.RangeConverted.{RangeConverted}
-use Rattle.lists.specs.declared.rnglists.RangeConverted.TheVariants as convertedRng
-use Rattle.lists.specs.declared.rnglists.RangeAnswer.{RangeAnswer}
-use Rattle.lists.specs.declared.rnglists.RangeAnswer.TheVariants as rng
-use Rattle.lists.specs.declared.loclists.RawLocationAnswer.{RawLocationAnswer}
-use Rattle.lists.specs.declared.loclists.RawLocationAnswer.TheVariants as rawLoc
-use Rattle.lists.specs.declared.loclists.LocationConverted.{LocationConverted}
-use Rattle.lists.specs.declared.loclists.LocationConverted.TheVariants as convertedLoc
-use Rattle.lists.specs.declared.loclists.LocationAnswer.{LocationAnswer}
-use Rattle.lists.specs.declared.loclists.LocationAnswer.TheVariants as loc
+use Rattle.lists.specs.declared.Range.{Range}
+use Rattle.lists.specs.declared.LocationListEntry.{LocationListEntry}
 
 -- a list's entries: how one is read at a place, its bounds, and what else it carries
 pub record Listing : Type 1 where
@@ -119,6 +115,10 @@ next_raw l size len w =
     (pick (leb len w.at) (ends w) (on_raw len w (l.read w.at)))
     (hands (refusal (UnsupportedAddressSize size)) (moved_to len w))
 
+-- a range list's coding, by a table that there may be
+abbrev pub coding_by : Option (Bor (List ℕ)) → Coding
+coding_by kinds = record { split = false; number = numbers_of kinds }
+
 -- what a raw entry comes to under a walk: an item or a refusal, or nothing; and the walk then
 pub data Outcome (D : Type 0) : Type 0 where
   comes : Result (Item D) → Walk → Outcome D
@@ -142,6 +142,9 @@ convert_raw l table size w e = converted table size w (l.carried e) (l.bounds_of
 abbrev pub next_of : (l : Bool) → Coding → Encoding → RunTimeEndian → List ℕ → List ℕ → DebugAddrBase → Walk → Next (Item (CarriedIn l)) Walk
 next_of l coding encoding endian s table tableBase w =
     next (listed l coding encoding endian s) (table_at endian encoding tableBase table) encoding.address_size (length s) w
+
+abbrev pub next_in_unit : (l : Bool) → Coding → List ℕ → DwarfUnit → Walk → Next (Item (CarriedIn l)) Walk
+next_in_unit l coding s u w = next_of l coding u.encoding u.endian s u.debug_addr.now u.debug_addr_base w
 
 abbrev pub next_raw_of : (l : Bool) → Coding → Encoding → RunTimeEndian → List ℕ → Walk → Next (EntryIn l) Walk
 next_raw_of l coding encoding endian s w = next_raw (listed l coding encoding endian s) encoding.address_size (length s) w
@@ -187,36 +190,37 @@ noted_location split encoding endian s w = noted_of true (dwarf split) encoding 
 abbrev pub converted_location : Encoding → RunTimeEndian → List ℕ → DebugAddrBase → Walk → RawLocListEntry → Outcome Expression
 converted_location encoding endian table tableBase w e = convert_raw (locations false encoding endian table) (table_at endian encoding tableBase table) encoding.address_size w e
 
--- the code's answers told as the definitions'
-abbrev pub told_raw_range : RawRangeAnswer → Next (Noted RawRngListEntry) Walk
-told_raw_range (rawRng.Entry e p w) = hands (gives (record { entry = e; padded = p })) w
-told_raw_range (rawRng.End w) = ends w
-told_raw_range (rawRng.Refused e w) = hands (refusal e) w
+-- the code's answers, with the walk that it leaves, told as the definitions'
+abbrev pub told_raw : {E : Type 0} → Answer (Option (code.Noted E)) Error → Walk → Next (Noted E) Walk
+told_raw (Ok (Some x)) w = hands (gives (noted_as x)) w
+told_raw (Ok None) w = ends w
+told_raw (Err e) w = hands (refusal e) w
 
-abbrev pub told_converted_range : RangeConverted → Outcome Unit
-told_converted_range (convertedRng.Range r w) = comes (gives (item r.begin r.end tt)) w
-told_converted_range (convertedRng.Nothing w) = nothing w
-told_converted_range (convertedRng.Refused e w) = comes (refusal e) w
+abbrev pub told_converted_range : Answer (Option Range) Error → Walk → Outcome Unit
+told_converted_range (Ok (Some r)) w = comes (gives (item r.begin r.end tt)) w
+told_converted_range (Ok None) w = nothing w
+told_converted_range (Err e) w = comes (refusal e) w
 
-abbrev pub told_next_range : RangeAnswer → Next (Item Unit) Walk
-told_next_range (rng.Range r w) = hands (gives (item r.begin r.end tt)) w
-told_next_range (rng.End w) = ends w
-told_next_range (rng.Refused e w) = hands (refusal e) w
+abbrev pub told_next_range : Answer (Option Range) Error → Walk → Next (Item Unit) Walk
+told_next_range (Ok (Some r)) w = hands (gives (item r.begin r.end tt)) w
+told_next_range (Ok None) w = ends w
+told_next_range (Err e) w = hands (refusal e) w
 
-abbrev pub told_raw_location : RawLocationAnswer → Next (Noted RawLocListEntry) Walk
-told_raw_location (rawLoc.Entry e p w) = hands (gives (record { entry = e; padded = p })) w
-told_raw_location (rawLoc.End w) = ends w
-told_raw_location (rawLoc.Refused e w) = hands (refusal e) w
+-- a location's answer without what it carries
+abbrev pub range_only : Answer (Option LocationListEntry) Error → Answer (Option Range) Error
+range_only (Ok (Some x)) = Ok (Some x.range)
+range_only (Ok None) = Ok None
+range_only (Err e) = Err e
 
-abbrev pub told_converted_location : LocationConverted → Outcome Expression
-told_converted_location (convertedLoc.Location x w) = comes (gives (item x.range.begin x.range.end x.«data»)) w
-told_converted_location (convertedLoc.Nothing w) = nothing w
-told_converted_location (convertedLoc.Refused e w) = comes (refusal e) w
+abbrev pub told_converted_location : Answer (Option LocationListEntry) Error → Walk → Outcome Expression
+told_converted_location (Ok (Some x)) w = comes (gives (item x.range.begin x.range.end x.«data»)) w
+told_converted_location (Ok None) w = nothing w
+told_converted_location (Err e) w = comes (refusal e) w
 
-abbrev pub told_next_location : LocationAnswer → Next (Item Expression) Walk
-told_next_location (loc.Location x w) = hands (gives (item x.range.begin x.range.end x.«data»)) w
-told_next_location (loc.End w) = ends w
-told_next_location (loc.Refused e w) = hands (refusal e) w
+abbrev pub told_next_location : Answer (Option LocationListEntry) Error → Walk → Next (Item Expression) Walk
+told_next_location (Ok (Some x)) w = hands (gives (item x.range.begin x.range.end x.«data»)) w
+told_next_location (Ok None) w = ends w
+told_next_location (Err e) w = hands (refusal e) w
 
 -- an answer of the code for both lists, told as its list's
 abbrev pub data_in : (l : Bool) → Expression → CarriedIn l

@@ -1,25 +1,23 @@
 // What a raw entry comes to: address lookups, base address, sums, and the entries that are skipped.
-ghost use Rattle.std.specs.Prelude.{◌≡◌};
-ghost use Rattle.tables.specs.Addr.{address_at};
+ghost use Rattle.std.specs.Prelude.{◌≡◌, Ok};
+ghost use Rattle.section_bytes.specs.Error.{told_value};
 ghost use Rattle.entries.specs.Listed.{entry_in};
+ghost use Rattle.entries.specs.Lists.{are_locations};
 ghost use Rattle.lists.specs.Steps.{is_default_in};
 ghost use Rattle.lists.specs.Walks.{is_default};
-ghost use Rattle.lists.specs.Convert.{told_turn, told_unchecked, bounded, offsets, convert, expression_of, passed_of, table_at};
+ghost use Rattle.lists.specs.Convert.{told_turn, told_unchecked, bounded, offsets, convert, expression_of, table_in};
 
-use super::Range;
-use entries::{Expression, RawLocListEntry, RawRngListEntry};
-use section_bytes::common::{DebugAddrBase, Encoding};
-use section_bytes::endianity::RunTimeEndian;
+use super::{Range, Unit};
+use entries::{Expression, Lists, NO_EXPRESSION, RawLocListEntry, RawRngListEntry};
+use section_bytes::common::DebugAddrIndex;
 use section_bytes::error::Error;
-use tables::addr::AddressAnswer;
 
-// A range, another base address, nothing, or a refused lookup.
+// A range, another base address, or nothing.
 #[derive(Clone, Copy)]
 pub enum Converted {
     Range(Range),
     Base(u64),
     Skip,
-    Refused(Error),
 }
 
 // The range of an entry before it is looked at; or what an entry comes to that has none. All ranges are then tested at one place
@@ -30,9 +28,24 @@ enum Unchecked {
     Other(Converted),
 }
 
+impl<'a> Unit<'a> {
+    // The address of an index in the unit's table.
+    pub fn address(&self, index: DebugAddrIndex) -> Result<u64, Error>
+        ensures { told_value result ≡ table_in self.now index }
+    {
+        tables::addr::get_address(
+            self.debug_addr,
+            self.encoding.address_size,
+            self.debug_addr_base,
+            index,
+            self.endian,
+        )
+    }
+}
+
 // A range is skipped when its begin is at or above the tombstone bound, or not below its end.
 fn checked(begin: u64, end: u64, size: u8) -> Converted
-    ensures { told_turn result ≡ bounded size begin end }
+    ensures { told_turn (Ok result) ≡ bounded size begin end }
 {
     if section_bytes::address::min_tombstone(size) <= begin {
         return Converted::Skip;
@@ -45,7 +58,7 @@ fn checked(begin: u64, end: u64, size: u8) -> Converted
 
 // An offset pair is skipped when the base is at or above the tombstone bound, even if the sum would wrap.
 fn offset_pair(begin: u64, end: u64, base_address: u64, size: u8) -> Unchecked
-    ensures { told_unchecked size result ≡ offsets size base_address begin end }
+    ensures { told_unchecked size (Ok result) ≡ offsets size base_address begin end }
 {
     let b = section_bytes::address::wrapping_add_sized(base_address, begin, size);
     let e = section_bytes::address::wrapping_add_sized(base_address, end, size);
@@ -55,78 +68,50 @@ fn offset_pair(begin: u64, end: u64, base_address: u64, size: u8) -> Unchecked
     Unchecked::Range(b, e)
 }
 
-// A refusal of a lookup passed on.
-fn passed(r: AddressAnswer) -> Unchecked
-    ensures { result ≡ passed_of r }
-{
-    match r {
-        AddressAnswer::Address(_) => Unchecked::Other(Converted::Skip),
-        AddressAnswer::Refused(e) => Unchecked::Other(Converted::Refused(e)),
-    }
-}
-
 // The range of an entry: the refusals of the address table, the begin's first.
-fn range_of(
-    raw: RawRngListEntry,
-    debug_addr: &[u8],
-    debug_addr_base: DebugAddrBase,
-    base_address: u64,
-    size: u8,
-    endian: RunTimeEndian,
-) -> Unchecked
-    ensures { told_unchecked size result ≡ convert (λ i. address_at endian size debug_addr_base i debug_addr.now) size base_address raw }
+#[tactic(auto, using(crate::proofs::ConvertLaws::answering), unfolding(crate::specs::Convert::convert))]
+fn range_of(raw: RawRngListEntry, unit: &Unit, base_address: u64) -> Result<Unchecked, Error>
+    ensures { let size = unit.now.encoding.address_size in told_unchecked size result ≡ convert (table_in unit.now) size base_address raw }
 {
+    let size = unit.encoding.address_size;
     match raw {
-        RawRngListEntry::AddressOrOffsetPair(b, e) => offset_pair(b, e, base_address, size),
-        RawRngListEntry::BaseAddress(a) => Unchecked::Other(Converted::Base(a)),
+        RawRngListEntry::AddressOrOffsetPair(b, e) => Ok(offset_pair(b, e, base_address, size)),
+        RawRngListEntry::BaseAddress(a) => Ok(Unchecked::Other(Converted::Base(a))),
         RawRngListEntry::BaseAddressx(i) => {
-            let r = tables::addr::get_address(debug_addr, size, debug_addr_base, i, endian);
-            let AddressAnswer::Address(a) = r else {
-                return passed(r);
-            };
-            Unchecked::Other(Converted::Base(a))
+            let a = unit.address(i)?;
+            Ok(Unchecked::Other(Converted::Base(a)))
         }
         RawRngListEntry::StartxEndx(i, j) => {
-            let r = tables::addr::get_address(debug_addr, size, debug_addr_base, i, endian);
-            let AddressAnswer::Address(b) = r else {
-                return passed(r);
-            };
-            let r1 = tables::addr::get_address(debug_addr, size, debug_addr_base, j, endian);
-            let AddressAnswer::Address(e) = r1 else {
-                return passed(r1);
-            };
-            Unchecked::Range(b, e)
+            let b = unit.address(i)?;
+            let e = unit.address(j)?;
+            Ok(Unchecked::Range(b, e))
         }
         RawRngListEntry::StartxLength(i, n) => {
-            let r = tables::addr::get_address(debug_addr, size, debug_addr_base, i, endian);
-            let AddressAnswer::Address(b) = r else {
-                return passed(r);
-            };
-            Unchecked::Range(b, section_bytes::address::wrapping_add_sized(b, n, size))
+            let b = unit.address(i)?;
+            let e = section_bytes::address::wrapping_add_sized(b, n, size);
+            Ok(Unchecked::Range(b, e))
         }
-        RawRngListEntry::OffsetPair(b, e) => offset_pair(b, e, base_address, size),
-        RawRngListEntry::StartEnd(b, e) => Unchecked::Range(b, e),
+        RawRngListEntry::OffsetPair(b, e) => Ok(offset_pair(b, e, base_address, size)),
+        RawRngListEntry::StartEnd(b, e) => Ok(Unchecked::Range(b, e)),
         RawRngListEntry::StartLength(b, n) => {
-            Unchecked::Range(b, section_bytes::address::wrapping_add_sized(b, n, size))
+            let e = section_bytes::address::wrapping_add_sized(b, n, size);
+            Ok(Unchecked::Range(b, e))
         }
     }
 }
 
 // A raw entry of a range list, or the bounds of a location: the refusals of the address table, the begin's first.
+#[tactic(auto, using(std::proofs::lemmas::Result::err_from_is_err_and))]
 pub fn convert_entry(
     raw: RawRngListEntry,
-    debug_addr: &[u8],
-    debug_addr_base: DebugAddrBase,
+    unit: &Unit,
     base_address: u64,
-    encoding: Encoding,
-    endian: RunTimeEndian,
-) -> Converted
-    ensures { told_turn result ≡ convert (table_at endian encoding debug_addr_base debug_addr.now) encoding.address_size base_address raw }
+) -> Result<Converted, Error>
+    ensures { told_turn result ≡ convert (table_in unit.now) unit.now.encoding.address_size base_address raw }
 {
-    let size = encoding.address_size;
-    match range_of(raw, debug_addr, debug_addr_base, base_address, size, endian) {
-        Unchecked::Range(begin, end) => checked(begin, end, size),
-        Unchecked::Other(r) => r,
+    match range_of(raw, unit, base_address)? {
+        Unchecked::Range(begin, end) => Ok(checked(begin, end, unit.encoding.address_size)),
+        Unchecked::Other(converted) => Ok(converted),
     }
 }
 
@@ -135,15 +120,14 @@ pub fn expression_of(raw: RawLocListEntry) -> Expression
     ensures { result ≡ expression_of raw }
 {
     match raw {
-        RawLocListEntry::AddressOrOffsetPair(_, _, x) => x,
-        RawLocListEntry::BaseAddress(_) => Expression { offset: 0, len: 0 },
-        RawLocListEntry::BaseAddressx(_) => Expression { offset: 0, len: 0 },
-        RawLocListEntry::StartxEndx(_, _, x) => x,
-        RawLocListEntry::StartxLength(_, _, x) => x,
-        RawLocListEntry::OffsetPair(_, _, x) => x,
-        RawLocListEntry::DefaultLocation(x) => x,
-        RawLocListEntry::StartEnd(_, _, x) => x,
-        RawLocListEntry::StartLength(_, _, x) => x,
+        RawLocListEntry::BaseAddress(_) | RawLocListEntry::BaseAddressx(_) => NO_EXPRESSION,
+        RawLocListEntry::AddressOrOffsetPair(_, _, x)
+        | RawLocListEntry::StartxEndx(_, _, x)
+        | RawLocListEntry::StartxLength(_, _, x)
+        | RawLocListEntry::OffsetPair(_, _, x)
+        | RawLocListEntry::DefaultLocation(x)
+        | RawLocListEntry::StartEnd(_, _, x)
+        | RawLocListEntry::StartLength(_, _, x) => x,
     }
 }
 
@@ -151,25 +135,16 @@ pub fn expression_of(raw: RawLocListEntry) -> Expression
 pub fn is_default(raw: RawLocListEntry) -> bool
     ensures { result ≡ is_default raw }
 {
-    match raw {
-        RawLocListEntry::AddressOrOffsetPair(_, _, _) => false,
-        RawLocListEntry::BaseAddress(_) => false,
-        RawLocListEntry::BaseAddressx(_) => false,
-        RawLocListEntry::StartxEndx(_, _, _) => false,
-        RawLocListEntry::StartxLength(_, _, _) => false,
-        RawLocListEntry::OffsetPair(_, _, _) => false,
-        RawLocListEntry::DefaultLocation(_) => true,
-        RawLocListEntry::StartEnd(_, _, _) => false,
-        RawLocListEntry::StartLength(_, _, _) => false,
-    }
+    matches!(raw, RawLocListEntry::DefaultLocation(_))
 }
 
 // The same of an entry of either list: a range list has no default location.
-pub fn is_default_in(locations: bool, raw: RawLocListEntry) -> bool
-    ensures { result ≡ is_default_in locations (entry_in locations raw) }
+#[tactic(auto, using(crate::proofs::ListedLaws::default_in))]
+pub fn is_default_in(lists: &Lists, raw: RawLocListEntry) -> bool
+    ensures { let l = are_locations lists.now in result ≡ is_default_in l (entry_in l raw) }
 {
-    if locations {
-        return is_default(raw);
+    match *lists {
+        Lists::Ranges(_) => false,
+        Lists::Locations(_) => is_default(raw),
     }
-    false
 }

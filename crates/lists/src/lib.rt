@@ -5,11 +5,22 @@ pub mod convert;
 pub mod count;
 pub mod listed;
 pub mod loclists;
+mod moves;
 pub mod open;
 pub mod rnglists;
 
 use entries::Expression;
-use section_bytes::error::Error;
+use section_bytes::common::{DebugAddrBase, Encoding};
+use section_bytes::endianity::RunTimeEndian;
+
+// What is the same for all lists of a unit: how it is written, and the table of the addresses that entries name by index.
+#[derive(Clone, Copy)]
+pub struct Unit<'a> {
+    pub encoding: Encoding,
+    pub endian: RunTimeEndian,
+    pub debug_addr: &'a [u8],
+    pub debug_addr_base: DebugAddrBase,
+}
 
 // A place in the section, the base address there, and how many raw entries were read since the list was opened.
 #[derive(Clone, Copy)]
@@ -31,11 +42,4 @@ pub struct Range {
 pub struct LocationListEntry {
     pub range: Range,
     pub data: Expression,
-}
-
-// A list that was opened.
-#[derive(Clone, Copy)]
-pub enum Opened {
-    List(Walk),
-    Refused(Error),
 }

@@ -1,76 +1,43 @@
-// Both lists as one, by whether a list holds locations: the raw step, conversion, the next item. A range list's entries and
-// items are locations' without an expression.
+// Both lists as one, by which lists are read: the raw step, conversion, the next item. A range list's entries and items are
+// locations' without an expression.
 ghost use Rattle.std.specs.Prelude.{◌≡◌};
-ghost use Rattle.entries.specs.Numbers.{coding_of};
-ghost use Rattle.lists.specs.Convert.{table_at};
-ghost use Rattle.lists.specs.Steps.{told_stepped, stepped_in, step_of};
-ghost use Rattle.lists.specs.Walk.{told_raw_location, noted_in, noted_of, told_converted_location, converted, told_next_location, next_in, next_of};
+ghost use Rattle.entries.specs.Lists.{are_locations, coding_in};
+ghost use Rattle.lists.specs.Convert.{table_in};
+ghost use Rattle.lists.specs.Steps.{told_stepped, stepped_in, step_in_unit};
+ghost use Rattle.lists.specs.Walk.{told_raw, noted_in, noted_of, told_converted_location, converted, told_next_location, range_only, next_in, next_in_unit};
 
 use super::convert::Converted;
-use super::loclists::{LocationAnswer, LocationConverted, RawLocationAnswer, Stepped};
-use super::{LocationListEntry, Walk};
-use entries::{Expression, LocationStep, RawLocationStep, RawRngListEntry};
-use section_bytes::common::{DebugAddrBase, Encoding};
+use super::{LocationListEntry, Range, Unit, Walk};
+use entries::{Expression, Lists, Noted, RawLocListEntry, RawRngListEntry};
+use section_bytes::common::Encoding;
 use section_bytes::endianity::RunTimeEndian;
 use section_bytes::error::Error;
 
-// The next raw entry, and whether some LEB128 number of it is padded: 6 with the size before all else, then the refusals of an
-// entry. The end mark and a refusal empty the walk.
+// The next raw entry, and whether some LEB128 number of it is padded; none at the end: 6 with the size before all else, then the
+// refusals of an entry. The end mark and a refusal empty the walk.
+#[tactic(auto, using(crate::proofs::ListedLaws::raw_other, crate::proofs::ListedLaws::raw_over))]
 pub fn next_raw(
     section: &[u8],
     walk: Walk,
     encoding: Encoding,
     endian: RunTimeEndian,
-    locations: bool,
-    split: bool,
-    by_table: bool,
-    kinds: &[u8],
-) -> RawLocationAnswer
-    ensures { noted_in locations (told_raw_location result) ≡ noted_of locations (coding_of split by_table kinds.now) encoding endian section.now walk }
+    lists: &Lists,
+) -> (Result<Option<Noted<RawLocListEntry>>, Error>, Walk)
+    ensures { let l = are_locations lists.now in noted_in l (told_raw result.0 result.1) ≡ noted_of l (coding_in lists.now) encoding endian section.now walk }
 {
-    let at = walk.at;
-    let base_address = walk.base_address;
-    let entries = walk.entries;
+    let end = section.len();
     let size = encoding.address_size as u64;
-    if section_bytes::reader::is_address_size(size) {
-        if section.len() <= at {
-            return RawLocationAnswer::End(walk);
-        }
-        return match entries::padded::noted_entry(
-            section, at, encoding, endian, locations, split, by_table, kinds,
-        ) {
-            RawLocationStep::Entry(raw, padded, c) => RawLocationAnswer::Entry(
-                raw,
-                padded,
-                Walk {
-                    at: c,
-                    base_address,
-                    entries: super::count::one_more(entries),
-                },
-            ),
-            RawLocationStep::End => RawLocationAnswer::End(Walk {
-                at: section.len(),
-                base_address,
-                entries: super::count::one_more(entries),
-            }),
-            RawLocationStep::Refused(e) => RawLocationAnswer::Refused(
-                e,
-                Walk {
-                    at: section.len(),
-                    base_address,
-                    entries,
-                },
-            ),
-        };
+    if !section_bytes::reader::is_address_size(size) {
+        return (Err(Error::UnsupportedAddressSize(size)), walk.moved_to(end));
     }
-    RawLocationAnswer::Refused(
-        Error::UnsupportedAddressSize(size),
-        Walk {
-            at: section.len(),
-            base_address,
-            entries,
-        },
-    )
+    if end <= walk.at {
+        return (Ok(None), walk);
+    }
+    match entries::padded::noted_entry(section, walk.at, encoding, endian, lists) {
+        Ok(Some((noted, after))) => (Ok(Some(noted)), walk.read_to(after)),
+        Ok(None) => (Ok(None), walk.read_to(end)),
+        Err(e) => (Err(e), walk.moved_to(end)),
+    }
 }
 
 // What an entry with these bounds and this expression comes to under a walk's base address, which it may replace: 6 with the
@@ -78,180 +45,139 @@ pub fn next_raw(
 pub fn convert_raw(
     bounds: RawRngListEntry,
     data: Expression,
-    debug_addr: &[u8],
-    debug_addr_base: DebugAddrBase,
+    unit: &Unit,
     walk: Walk,
-    encoding: Encoding,
-    endian: RunTimeEndian,
-) -> LocationConverted
-    ensures { told_converted_location result ≡ converted (table_at endian encoding debug_addr_base debug_addr.now) encoding.address_size walk «data» bounds }
+) -> (Result<Option<LocationListEntry>, Error>, Walk)
+    ensures { told_converted_location result.0 result.1 ≡ converted (table_in unit.now) unit.now.encoding.address_size walk «data» bounds }
 {
-    let at = walk.at;
-    let size = encoding.address_size as u64;
-    if section_bytes::reader::is_address_size(size) {
-        return match super::convert::convert_entry(
-            bounds,
-            debug_addr,
-            debug_addr_base,
-            walk.base_address,
-            encoding,
-            endian,
-        ) {
-            Converted::Range(range) => LocationConverted::Location(
-                LocationListEntry { range, data },
-                walk,
-            ),
-            Converted::Base(base_address) => LocationConverted::Nothing(Walk {
-                at,
-                base_address,
-                entries: walk.entries,
-            }),
-            Converted::Skip => LocationConverted::Nothing(walk),
-            Converted::Refused(e) => LocationConverted::Refused(e, walk),
-        };
+    let size = unit.encoding.address_size as u64;
+    if !section_bytes::reader::is_address_size(size) {
+        return (Err(Error::UnsupportedAddressSize(size)), walk);
     }
-    LocationConverted::Refused(Error::UnsupportedAddressSize(size), walk)
+    match super::convert::convert_entry(bounds, unit, walk.base_address) {
+        Ok(Converted::Range(range)) => (Ok(Some(LocationListEntry { range, data })), walk),
+        Ok(Converted::Base(base_address)) => (Ok(None), walk.rebased(base_address)),
+        Ok(Converted::Skip) => (Ok(None), walk),
+        Err(e) => (Err(e), walk),
+    }
 }
 
-// The next item: 6 with the size before all else, then the refusals of an entry, which empty the walk, and of the
-// address table, which leave it after the entry.
+// The next item, or none at the end: 6 with the size before all else, then the refusals of an entry, which empty the walk, and of
+// the address table, which leave it after the entry.
 pub fn next(
     section: &[u8],
-    debug_addr: &[u8],
-    debug_addr_base: DebugAddrBase,
+    unit: &Unit,
+    lists: &Lists,
     walk: Walk,
-    encoding: Encoding,
-    endian: RunTimeEndian,
-    locations: bool,
-    split: bool,
-    by_table: bool,
-    kinds: &[u8],
-) -> LocationAnswer
-    ensures { next_in locations (told_next_location result) ≡ next_of locations (coding_of split by_table kinds.now) encoding endian section.now debug_addr.now debug_addr_base walk }
+) -> (Result<Option<LocationListEntry>, Error>, Walk)
+    ensures { let l = are_locations lists.now in next_in l (told_next_location result.0 result.1) ≡ next_in_unit l (coding_in lists.now) section.now unit.now walk }
 {
     let mut at = walk.at;
     let mut base_address = walk.base_address;
     let mut read: u64 = 0;
-    let size = encoding.address_size as u64;
-    if section_bytes::reader::is_address_size(size) {
-        while at < section.len() {
-            match entries::raw::raw_entry(
-                section, at, encoding, endian, locations, split, by_table, kinds,
-            ) {
-                LocationStep::Refused(e) => {
-                    return LocationAnswer::Refused(
-                        e,
-                        Walk {
-                            at: section.len(),
-                            base_address,
-                            entries: super::count::risen(walk.entries, read),
-                        },
-                    );
-                }
-                LocationStep::End => {
-                    return LocationAnswer::End(Walk {
-                        at: section.len(),
-                        base_address,
-                        entries: super::count::risen(walk.entries, read + 1),
-                    });
-                }
-                LocationStep::Entry(raw, c) => {
-                    let more = read + 1;
-                    let after = Walk {
-                        at: c,
-                        base_address,
-                        entries: super::count::risen(walk.entries, more),
-                    };
-                    let bounds = entries::raw::bounds_of(raw);
-                    let data = super::convert::expression_of(raw);
-                    match super::convert::convert_entry(
-                        bounds,
-                        debug_addr,
-                        debug_addr_base,
-                        base_address,
-                        encoding,
-                        endian,
-                    ) {
-                        Converted::Range(range) => {
-                            return LocationAnswer::Location(
-                                LocationListEntry { range, data },
-                                after,
-                            );
-                        }
-                        Converted::Refused(e) => {
-                            return LocationAnswer::Refused(e, after);
-                        }
-                        Converted::Base(b) => {
-                            base_address = b;
-                        }
-                        Converted::Skip => {}
+    let size = unit.encoding.address_size as u64;
+    if !section_bytes::reader::is_address_size(size) {
+        return (
+            Err(Error::UnsupportedAddressSize(size)),
+            walk.moved_to(section.len()),
+        );
+    }
+    while at < section.len() {
+        match entries::raw::raw_entry(section, at, unit.encoding, unit.endian, lists) {
+            Ok(Some((raw, after))) => {
+                let more = read + 1;
+                let bounds = entries::raw::bounds_of(raw);
+                let data = super::convert::expression_of(raw);
+                match super::convert::convert_entry(bounds, unit, base_address) {
+                    Ok(Converted::Range(range)) => {
+                        return (
+                            Ok(Some(LocationListEntry { range, data })),
+                            walk.gone_on(after, base_address, more),
+                        );
                     }
-                    at = c;
-                    read = more;
+                    Ok(Converted::Base(b)) => {
+                        base_address = b;
+                    }
+                    Ok(Converted::Skip) => {}
+                    Err(e) => {
+                        return (Err(e), walk.gone_on(after, base_address, more));
+                    }
                 }
+                at = after;
+                read = more;
+            }
+            Ok(None) => {
+                return (
+                    Ok(None),
+                    walk.gone_on(section.len(), base_address, read + 1),
+                );
+            }
+            Err(e) => {
+                return (Err(e), walk.gone_on(section.len(), base_address, read));
             }
         }
-        LocationAnswer::End(Walk {
-            at,
-            base_address,
-            entries: super::count::risen(walk.entries, read),
-        })
-    } else {
-        LocationAnswer::Refused(
-            Error::UnsupportedAddressSize(size),
-            Walk {
-                at: section.len(),
-                base_address,
-                entries: walk.entries,
-            },
-        )
     }
+    (Ok(None), walk.gone_on(at, base_address, read))
 }
 
-// The entry at a place of a list, and what it comes to under a base address: the refusals of an entry, then those of the address
-// table. At or past the section's end, the end. Whether a location is a default one is told by the variant at once: kept beside
+// What one entry comes to: a bounded location or a default one; another base address; nothing; a failed address lookup.
+#[derive(Clone, Copy)]
+pub enum Stepped {
+    Bounded(LocationListEntry),
+    Default(LocationListEntry),
+    Base(u64),
+    Nothing,
+    Failed(Error),
+}
+
+// The entry at a place of a list, and what it comes to under a base address, with the place after it; none at or past the section's
+// end, and for an end mark: the refusals of an entry. Whether a location is a default one is told by the variant at once: kept beside
 // the location until its range was looked at, it costs 5 % more instructions in the median.
+#[tactic(auto, using(crate::proofs::SteppedLaws::step_refused, std::proofs::lemmas::Result::err_from_is_err_and))]
 pub fn step(
     section: &[u8],
-    debug_addr: &[u8],
-    debug_addr_base: DebugAddrBase,
+    unit: &Unit,
+    lists: &Lists,
     at: usize,
     base_address: u64,
-    encoding: Encoding,
-    endian: RunTimeEndian,
-    locations: bool,
-    split: bool,
-    by_table: bool,
-    kinds: &[u8],
-) -> Stepped
-    ensures { stepped_in locations (told_stepped result) ≡ step_of locations (coding_of split by_table kinds.now) encoding endian section.now debug_addr.now debug_addr_base at base_address }
+) -> Result<Option<(Stepped, usize)>, Error>
+    ensures { let l = are_locations lists.now in stepped_in l (told_stepped result) ≡ step_in_unit l (coding_in lists.now) section.now unit.now at base_address }
 {
-    match entries::raw::raw_entry(
-        section, at, encoding, endian, locations, split, by_table, kinds,
-    ) {
-        LocationStep::Refused(e) => Stepped::Refused(e),
-        LocationStep::End => Stepped::End,
-        LocationStep::Entry(raw, c) => {
-            let bounds = entries::raw::bounds_of(raw);
-            let data = super::convert::expression_of(raw);
-            match super::convert::convert_entry(
-                bounds,
-                debug_addr,
-                debug_addr_base,
-                base_address,
-                encoding,
-                endian,
-            ) {
-                Converted::Range(range) => {
-                    if super::convert::is_default_in(locations, raw) {
-                        return Stepped::Default(LocationListEntry { range, data }, c);
-                    }
-                    Stepped::Bounded(LocationListEntry { range, data }, c)
-                }
-                Converted::Base(b) => Stepped::Base(b, c),
-                Converted::Skip => Stepped::Nothing(c),
-                Converted::Refused(e) => Stepped::Failed(e, c),
+    let Some((raw, after)) = entries::raw::raw_entry(
+        section,
+        at,
+        unit.encoding,
+        unit.endian,
+        lists,
+    )?
+    else {
+        return Ok(None);
+    };
+    let bounds = entries::raw::bounds_of(raw);
+    let data = super::convert::expression_of(raw);
+    let stepped = match super::convert::convert_entry(bounds, unit, base_address) {
+        Ok(Converted::Range(range)) => {
+            if super::convert::is_default_in(lists, raw) {
+                Stepped::Default(LocationListEntry { range, data })
+            } else {
+                Stepped::Bounded(LocationListEntry { range, data })
             }
         }
-    }
+        Ok(Converted::Base(b)) => Stepped::Base(b),
+        Ok(Converted::Skip) => Stepped::Nothing,
+        Err(e) => Stepped::Failed(e),
+    };
+    Ok(Some((stepped, after)))
+}
+
+// A location found without its expression: what a range list's item is.
+pub fn range_answer(
+    answer: Result<Option<LocationListEntry>, Error>,
+) -> Result<Option<Range>, Error>
+    ensures { result ≡ range_only answer }
+{
+    let Some(location) = answer? else {
+        return Ok(None);
+    };
+    Ok(Some(location.range))
 }

@@ -6,16 +6,14 @@ use mathlib.Core.Path.{◌≡◌, refl, sym, ap, ◌∙◌}
 use Prim.Native.Nat.{ℕ}
 use lib.ListN.{length}
 use Rattle.section_bytes.specs.Read.{gives, refused, pick}
-use Rattle.section_bytes.specs.declared.common.DebugAddrBase.{DebugAddrBase}
-use Rattle.section_bytes.specs.declared.common.Encoding.{Encoding}
-use Rattle.section_bytes.specs.declared.endianity.RunTimeEndian.{RunTimeEndian}
 use Rattle.entries.specs.Numbers.{Coding, dwarf}
 use Rattle.entries.specs.declared.RawLocListEntry.{RawLocListEntry}
 use Rattle.entries.specs.declared.RawRngListEntry.{RawRngListEntry}
-use Rattle.lists.specs.Convert.{table_at}
+use Rattle.lists.specs.Convert.{table_in}
 use Rattle.lists.specs.Walk.{carried_in, listed, item, Trace, over, handed, trace}
 use Rattle.lists.specs.Walks.{carried_as, with_entries, carrying}
 use Rattle.lists.specs.Steps.{Located, located_in}
+use Rattle.lists.specs.declared.Unit.{Unit as DwarfUnit}
 use Rattle.lists.specs.declared.Walk.{Walk}
 use Rattle.lists.proofs.Bounds.{trace_carrying}
 use Rattle.lookups.specs.Lookup.{holds, only, stops_at, is_bounded, locations_from}
@@ -68,16 +66,15 @@ module _ (a : ℕ) where
   range_stops (handed (refused n vs) w t) = refl
 
 -- a lookup from a walk on stops where it does at the start: in a location list, and in a range list
-pub stops_locations : (split : Bool) (encoding : Encoding) (endian : RunTimeEndian) (s table : List ℕ) (tableBase : DebugAddrBase) (a : ℕ) (w : Walk)
-    → stops_at a (only is_bounded (locations_from split encoding endian s table tableBase w)) ≡ stops a (does true (dwarf split) encoding endian s table tableBase w.at w.base_address w.entries)
-stops_locations split encoding endian s table tableBase a w =
-    location_stops a (locations_from split encoding endian s table tableBase w)
-    ∙ ap (stops a) (sym (trace_carrying (carried_as (listed true (dwarf split) encoding endian s) (located_in true)) (table_at endian encoding tableBase table) encoding.address_size (length s) w))
+pub stops_locations : (split : Bool) (s : List ℕ) (u : DwarfUnit) (a : ℕ) (w : Walk)
+    → stops_at a (only is_bounded (locations_from split u.encoding u.endian s u.debug_addr.now u.debug_addr_base w)) ≡ stops a (does true (dwarf split) s u w.at w.base_address w.entries)
+stops_locations split s u a w =
+    location_stops a (locations_from split u.encoding u.endian s u.debug_addr.now u.debug_addr_base w)
+    ∙ ap (stops a) (sym (trace_carrying (carried_as (listed true (dwarf split) u.encoding u.endian s) (located_in true)) (table_in u) u.encoding.address_size (length s) w))
 
-pub stops_ranges : (coding : Coding) (encoding : Encoding) (endian : RunTimeEndian) (s table : List ℕ) (tableBase : DebugAddrBase) (a : ℕ) (w : Walk)
-    → stops_at a (trace (listed false coding encoding endian s) (table_at endian encoding tableBase table) encoding.address_size (length s) w)
-    ≡ stops a (does false coding encoding endian s table tableBase w.at w.base_address w.entries)
-stops_ranges coding encoding endian s table tableBase a w =
-    ap (stops_at a) (trace_carrying (listed false coding encoding endian s) (table_at endian encoding tableBase table) encoding.address_size (length s) w)
-    ∙ range_stops a (trace (with_entries (listed false coding encoding endian s)) (table_at endian encoding tableBase table) encoding.address_size (length s) w)
-    ∙ ap (stops a) (sym (trace_carrying (carried_as (listed false coding encoding endian s) (located_in false)) (table_at endian encoding tableBase table) encoding.address_size (length s) w))
+pub stops_ranges : (coding : Coding) (s : List ℕ) (u : DwarfUnit) (a : ℕ) (w : Walk)
+    → stops_at a (trace (listed false coding u.encoding u.endian s) (table_in u) u.encoding.address_size (length s) w) ≡ stops a (does false coding s u w.at w.base_address w.entries)
+stops_ranges coding s u a w =
+    ap (stops_at a) (trace_carrying (listed false coding u.encoding u.endian s) (table_in u) u.encoding.address_size (length s) w)
+    ∙ range_stops a (trace (with_entries (listed false coding u.encoding u.endian s)) (table_in u) u.encoding.address_size (length s) w)
+    ∙ ap (stops a) (sym (trace_carrying (carried_as (listed false coding u.encoding u.endian s) (located_in false)) (table_in u) u.encoding.address_size (length s) w))

@@ -3,15 +3,15 @@
 use mathlib.Core.Bool.{Bool, true, false, not}
 use mathlib.Core.List.{List}
 use mathlib.Core.Path.{◌≡◌, refl, sym, ap, ◌∙◌, subst}
-use Prim.Native.Nat.{ℕ, ◌-◌, ◌^◌}
+use Prim.Native.Nat.{ℕ, ◌-◌, ◌^◌, ◌≤◌, ◌<◌}
 use native.Mathlib.Omega.{arith}
 use lib.Dec.{leb}
 use lib.ListN.{length}
+use Rattle.std.specs.Prelude.{Some, None, Ok}
+use Rattle.std.specs.Option.{option_or}
+use Rattle.std.specs.declared.option.Option.{Option}
+use Rattle.std.proofs.lemmas.Result.{err_from_is_err_and}
 use Rattle.section_bytes.specs.Read.{Result, gives, refused, got, Read, pick}
-use Rattle.section_bytes.specs.declared.common.DebugAddrBase.{DebugAddrBase}
-use Rattle.section_bytes.specs.declared.common.DebugAddrIndex.{DebugAddrIndex}
-use Rattle.section_bytes.specs.declared.common.Encoding.{Encoding}
-use Rattle.section_bytes.specs.declared.endianity.RunTimeEndian.{RunTimeEndian}
 use Rattle.entries.specs.Forms.{Raw, stop, entry}
 use Rattle.entries.specs.Listed.{EntryIn}
 use Rattle.entries.specs.Numbers.{Coding, dwarf}
@@ -19,15 +19,21 @@ use Rattle.entries.specs.declared.Expression.{Expression}
 use Rattle.entries.specs.declared.RawLocListEntry.{RawLocListEntry}
 use Rattle.entries.specs.declared.RawRngListEntry.{RawRngListEntry}
 use Rattle.lists.specs.Open.{walk_at, one_more}
-use Rattle.lists.specs.Convert.{Turn, range, rebase, skip, convert, table_at, expression_of}
+use Rattle.lists.specs.Convert.{Turn, range, rebase, skip, convert, table_in, expression_of}
 use Rattle.lists.specs.Walk.{Listing, CarriedIn, bounds_in, carried_in, listed, Item, item, Trace, over, handed, trace}
+use Rattle.lists.specs.Uncounted.{trace_uncounted}
 use Rattle.lists.specs.Walks.{is_default, carried_as, with_entries, carrying}
-use Rattle.lists.specs.Steps.{Step, yields, rebases, passes, fails, ended, turned, on_entry, step, Located, is_default_in, located_in, located, step_of}
+use Rattle.lists.specs.Steps.{Step, yields, rebases, passes, fails, ended, turned, on_entry, step, Located, is_default_in, located_in, located, step_in_unit, stepped_to, stepped_in}
+use Rattle.lists.specs.declared.Unit.{Unit as DwarfUnit}
 use Rattle.lists.specs.declared.Walk.{Walk}
+use Rattle.lists.specs.declared.LocationListEntry.{LocationListEntry}
+use Rattle.lists.specs.declared.listed.Stepped.{Stepped}
+use Rattle.lists.specs.declared.listed.Stepped.TheVariants as code
+use Rattle.lists.proofs.CountLaws.{uncounted_as_before}
 use Rattle.lists.proofs.Past.{listed_past, listed_ends}
 use Rattle.lists.proofs.Bounds.{trace_carrying, Turned, whole_in}
 use Rattle.lists.proofs.SteppedLaws.{Stepping, stepping, stepped_item, stepped_base, stepped_nothing, stepped_failed, stepped_refused, stepped_end_at}
-use Rattle.lookups.specs.Lookup.{Found, found, not_there, holds, lookup_in, only, is_bounded, or_else, location_in, found_carrying, lookup_range_from, lookup_location_from}
+use Rattle.lookups.specs.Lookup.{Found, found, not_there, holds, lookup_in, only, is_bounded, or_else, location_in, found_carrying, lookup_range_from_unit, lookup_location_from, told_location_found}
 
 -- the first item that holds the address among those that a test takes
 pub seek : {D : Type 0} → ℕ → (Located D → Bool) → Trace (Located D) → Result (Found D)
@@ -122,6 +128,17 @@ module _ (a : ℕ) where
   unfolding left seek
   at_end k q = ap (left a k) q ∙ else_none k
 
+  -- it does not hang on what the list's walks have counted
+  seek_uncounted : {D : Type 0} (p : Located D → Bool) (t : Trace (Located D)) → seek a p t ≡ seek a p (trace_uncounted t)
+  unfolding seek
+  seek_uncounted p (over w) = refl
+  seek_uncounted p (handed (gives (item b e d)) w t) = rw (seek_uncounted p t) refl
+  seek_uncounted p (handed (refused n vs) w t) = refl
+
+  left_uncounted : {D : Type 0} (k : Result (Found D)) (t : Trace (Located D)) → left a k t ≡ left a k (trace_uncounted t)
+  unfolding left
+  left_uncounted k t = rw (seek_uncounted bounded t, seek_uncounted default t) refl
+
 -- a default location is 0 to 2^64 - 1, also as a step tells it
 abbrev Wholly : Bool → ℕ → ℕ → Type 0
 Wholly d b e = d ≡ true → (b ≡ 0) × (e ≡ 2 ^ 64 - 1)
@@ -147,102 +164,123 @@ turn_whole (gives skip) d c h = tt
 turn_whole (refused n vs) d c h = tt
 
 -- of either list, by whether it holds locations, a step at a time
-module _ (l : Bool) (coding : Coding) (encoding : Encoding) (endian : RunTimeEndian) (s table : List ℕ) (tableBase : DebugAddrBase) where
+module _ (l : Bool) (coding : Coding) (s : List ℕ) (u : DwarfUnit) where
   abbrev list : Listing
-  list = carried_as (listed l coding encoding endian s) (located_in l)
-
-  abbrev rows : DebugAddrIndex → Result ℕ
-  rows = table_at endian encoding tableBase table
+  list = carried_as (listed l coding u.encoding u.endian s) (located_in l)
 
   -- what it does from a place on, under a base address
   abbrev pub does : ℕ → ℕ → ℕ → Trace (Located (CarriedIn l))
-  does at base n = trace list rows encoding.address_size (length s) (walk_at at base n)
+  does at base n = trace list (table_in u) u.encoding.address_size (length s) (walk_at at base n)
 
-  converts_whole : (base : ℕ) (x : EntryIn l) → Turned (Wholly (is_default_in l x)) (convert rows encoding.address_size base (bounds_in l x))
+  converts_whole : (base : ℕ) (x : EntryIn l) → Turned (Wholly (is_default_in l x)) (convert (table_in u) u.encoding.address_size base (bounds_in l x))
   converts_whole = by l
     where
-      by : (m : Bool) (base : ℕ) (x : EntryIn m) → Turned (Wholly (is_default_in m x)) (convert rows encoding.address_size base (bounds_in m x))
-      by true base x = whole_in rows encoding.address_size base x
-      by false base x = none_whole (convert rows encoding.address_size base x)
+      by : (m : Bool) (base : ℕ) (x : EntryIn m) → Turned (Wholly (is_default_in m x)) (convert (table_in u) u.encoding.address_size base (bounds_in m x))
+      by true base x = whole_in (table_in u) u.encoding.address_size base x
+      by false base x = none_whole (convert (table_in u) u.encoding.address_size base x)
 
-  entry_whole : (base : ℕ) (r : Read (Raw (EntryIn l))) → SteppedWhole (on_entry list rows encoding.address_size base r)
-  entry_whole base (gives (got (entry x) c)) = turn_whole (convert rows encoding.address_size base (bounds_in l x)) (located_in l x) c (converts_whole base x)
+  entry_whole : (base : ℕ) (r : Read (Raw (EntryIn l))) → SteppedWhole (on_entry list (table_in u) u.encoding.address_size base r)
+  entry_whole base (gives (got (entry x) c)) = turn_whole (convert (table_in u) u.encoding.address_size base (bounds_in l x)) (located_in l x) c (converts_whole base x)
   entry_whole base (gives (got stop c)) = tt
   entry_whole base (refused n vs) = tt
 
   module _ (at base : ℕ) where
     abbrev pub Steps : Result (Step (Located (CarriedIn l))) → Type 0
-    Steps r = step_of l coding encoding endian s table tableBase at base ≡ r
+    Steps r = r ≡ step_in_unit l coding s u at base
 
     pub step_ahead : {r : Result (Step (Located (CarriedIn l)))} → Steps r → Stepping at (length s) r
-    step_ahead q = subst (Stepping at (length s)) q (stepping list _ _ _ (listed_past l coding encoding endian s) (listed_ends l coding encoding endian s) at base)
+    step_ahead q = subst (Stepping at (length s)) (sym q) (stepping list _ _ _ (listed_past l coding u.encoding u.endian s) (listed_ends l coding u.encoding u.endian s) at base)
 
-    step_whole : SteppedWhole (step_of l coding encoding endian s table tableBase at base)
+    pub step_past : (x : Stepped) {c : ℕ} → Steps (stepped_in l (gives (stepped_to x c))) → (at < c) × (c ≤ length s)
+    step_past (code.Bounded x) q = step_ahead q
+    step_past (code.Default x) q = step_ahead q
+    step_past (code.Base b) q = step_ahead q
+    step_past code.Nothing q = step_ahead q
+    step_past (code.Failed e) q = step_ahead q
+
+    step_whole : SteppedWhole (step_in_unit l coding s u at base)
     unfolding step
     step_whole = entry_whole base (list.read at)
 
     pub default_bounds : {b e : ℕ} {d : Located (CarriedIn l)} {c : ℕ} → Steps (gives (yields (item b e d) c)) → d.by_default ≡ true → (b ≡ 0) × (e ≡ 2 ^ 64 - 1)
-    default_bounds q = subst SteppedWhole q step_whole
+    default_bounds q = subst SteppedWhole (sym q) step_whole
 
     -- what the list does first, by the step
     module _ (n : ℕ) where
       pub found_as : {b e : ℕ} {d : Located (CarriedIn l)} {c : ℕ} → Steps (gives (yields (item b e d) c)) → does at base n ≡ handed (gives (item b e d)) (walk_at c base (one_more n)) (does c base (one_more n))
-      found_as q = stepped_item list _ _ _ (listed_past l coding encoding endian s) (listed_ends l coding encoding endian s) (walk_at at base n) q
+      found_as q = stepped_item list _ _ _ (listed_past l coding u.encoding u.endian s) (listed_ends l coding u.encoding u.endian s) (walk_at at base n) (sym q)
 
       pub base_as : {b c : ℕ} → Steps (gives (rebases b c)) → does at base n ≡ does c b (one_more n)
-      base_as q = stepped_base list _ _ _ (listed_past l coding encoding endian s) (listed_ends l coding encoding endian s) (walk_at at base n) q
+      base_as q = stepped_base list _ _ _ (listed_past l coding u.encoding u.endian s) (listed_ends l coding u.encoding u.endian s) (walk_at at base n) (sym q)
 
       pub nothing_as : {c : ℕ} → Steps (gives (passes c)) → does at base n ≡ does c base (one_more n)
-      nothing_as q = stepped_nothing list _ _ _ (listed_past l coding encoding endian s) (listed_ends l coding encoding endian s) (walk_at at base n) q
+      nothing_as q = stepped_nothing list _ _ _ (listed_past l coding u.encoding u.endian s) (listed_ends l coding u.encoding u.endian s) (walk_at at base n) (sym q)
 
       pub failed_as : {m : ℕ} {vs : List ℕ} {c : ℕ} → Steps (gives (fails m vs c)) → does at base n ≡ handed (refused m vs) (walk_at c base (one_more n)) (does c base (one_more n))
-      failed_as q = stepped_failed list _ _ _ (listed_past l coding encoding endian s) (listed_ends l coding encoding endian s) (walk_at at base n) q
+      failed_as q = stepped_failed list _ _ _ (listed_past l coding u.encoding u.endian s) (listed_ends l coding u.encoding u.endian s) (walk_at at base n) (sym q)
 
       pub refused_as : {m : ℕ} {vs : List ℕ} → Steps (refused m vs) → does at base n ≡ handed (refused m vs) (walk_at (length s) base n) (over (walk_at (length s) base n))
-      refused_as q = stepped_refused list _ _ _ (listed_past l coding encoding endian s) (listed_ends l coding encoding endian s) (walk_at at base n) q
+      refused_as q = stepped_refused list _ _ _ (listed_past l coding u.encoding u.endian s) (listed_ends l coding u.encoding u.endian s) (walk_at at base n) (sym q)
 
       pub end_as : Steps (gives ended) → does at base n ≡ over (pick (leb (length s) at) (walk_at at base n) (walk_at (length s) base (one_more n)))
-      end_as q = stepped_end_at list _ _ _ (listed_past l coding encoding endian s) (listed_ends l coding encoding endian s) (walk_at at base n) q
+      end_as q = stepped_end_at list _ _ _ (listed_past l coding u.encoding u.endian s) (listed_ends l coding u.encoding u.endian s) (walk_at at base n) (sym q)
 
-  -- and what is left of a lookup then
-  module _ (a : ℕ) (k : Result (Found (CarriedIn l))) (at base n : ℕ) where
-    module _ {b e : ℕ} {x : CarriedIn l} {c : ℕ} where
-      pub step_bounded_held : Steps at base (gives (yields (item b e (record { carries = x; by_default = false })) c)) → holds a b e ≡ true → left a k (does at base n) ≡ gives (found (item b e x))
+  -- and what is left of a lookup then, however many entries were counted
+  module _ (a : ℕ) where
+    any_count : (k : Result (Found (CarriedIn l))) (at base n m : ℕ) → left a k (does at base n) ≡ left a k (does at base m)
+    any_count k at base n m =
+        left_uncounted a k (does at base n)
+        ∙ ap (left a k) (uncounted_as_before.walk list (table_in u) u.encoding.address_size (length s) (walk_at at base n) ∙ sym (uncounted_as_before.walk list (table_in u) u.encoding.address_size (length s) (walk_at at base m)))
+        ∙ sym (left_uncounted a k (does at base m))
+
+    module _ (k : Result (Found (CarriedIn l))) (at base n : ℕ) where
+      pub step_bounded_held : {b e : ℕ} {x : CarriedIn l} {c : ℕ} → Steps at base (gives (yields (item b e (record { carries = x; by_default = false })) c)) → holds a b e ≡ true → left a k (does at base n) ≡ gives (found (item b e x))
       step_bounded_held q h = bounded_held a k (found_as at base n q) h
 
-      pub step_bounded : Steps at base (gives (yields (item b e (record { carries = x; by_default = false })) c)) → holds a b e ≡ false → left a k (does at base n) ≡ left a k (does c base (one_more n))
-      step_bounded q h = bounded_not_held a k (found_as at base n q) h
+      pub step_failed : {i : ℕ} {vs : List ℕ} {c : ℕ} → Steps at base (gives (fails i vs c)) → left a k (does at base n) ≡ refused i vs
+      step_failed q = at_refusal a k (failed_as at base n q)
 
-      pub step_default_held : Steps at base (gives (yields (item b e (record { carries = x; by_default = true })) c)) → holds a b e ≡ true → left a k (does at base n) ≡ left a (or_else k (gives (found (item b e x)))) (does c base (one_more n))
-      step_default_held q h = default_held a k (found_as at base n q) h
+      pub step_refused : {i : ℕ} {vs : List ℕ} → Steps at base (refused i vs) → left a k (does at base n) ≡ refused i vs
+      step_refused q = at_refusal a k (refused_as at base n q)
 
-      pub step_default : Steps at base (gives (yields (item b e (record { carries = x; by_default = true })) c)) → holds a b e ≡ false → left a k (does at base n) ≡ left a k (does c base (one_more n))
-      step_default q h = default_not_held a k (found_as at base n q) h
+      pub step_end : Steps at base (gives ended) → left a k (does at base n) ≡ k
+      step_end q = at_end a k (end_as at base n q)
 
-    pub step_base : {b c : ℕ} → Steps at base (gives (rebases b c)) → left a k (does at base n) ≡ left a k (does c b (one_more n))
-    step_base q = ap (left a k) (base_as at base n q)
+      module _ (m : ℕ) where
+        module _ {b e : ℕ} {x : CarriedIn l} {c : ℕ} where
+          pub step_bounded : Steps at base (gives (yields (item b e (record { carries = x; by_default = false })) c)) → holds a b e ≡ false → left a k (does at base n) ≡ left a k (does c base m)
+          step_bounded q h = bounded_not_held a k (found_as at base n q) h ∙ any_count k c base (one_more n) m
 
-    pub step_nothing : {c : ℕ} → Steps at base (gives (passes c)) → left a k (does at base n) ≡ left a k (does c base (one_more n))
-    step_nothing q = ap (left a k) (nothing_as at base n q)
+          pub step_default_held : Steps at base (gives (yields (item b e (record { carries = x; by_default = true })) c)) → holds a b e ≡ true → left a k (does at base n) ≡ left a (or_else k (gives (found (item b e x)))) (does c base m)
+          step_default_held q h = default_held a k (found_as at base n q) h ∙ any_count (or_else k (gives (found (item b e x)))) c base (one_more n) m
 
-    pub step_failed : {m : ℕ} {vs : List ℕ} {c : ℕ} → Steps at base (gives (fails m vs c)) → left a k (does at base n) ≡ refused m vs
-    step_failed q = at_refusal a k (failed_as at base n q)
+          pub step_default : Steps at base (gives (yields (item b e (record { carries = x; by_default = true })) c)) → holds a b e ≡ false → left a k (does at base n) ≡ left a k (does c base m)
+          step_default q h = default_not_held a k (found_as at base n q) h ∙ any_count k c base (one_more n) m
 
-    pub step_refused : {m : ℕ} {vs : List ℕ} → Steps at base (refused m vs) → left a k (does at base n) ≡ refused m vs
-    step_refused q = at_refusal a k (refused_as at base n q)
+        pub step_base : {b c : ℕ} → Steps at base (gives (rebases b c)) → left a k (does at base n) ≡ left a k (does c b m)
+        step_base {b} {c} q = ap (left a k) (base_as at base n q) ∙ any_count k c b (one_more n) m
 
-    pub step_end : Steps at base (gives ended) → left a k (does at base n) ≡ k
-    step_end q = at_end a k (end_as at base n q)
+        pub step_nothing : {c : ℕ} → Steps at base (gives (passes c)) → left a k (does at base n) ≡ left a k (does c base m)
+        step_nothing {c} q = ap (left a k) (nothing_as at base n q) ∙ any_count k c base (one_more n) m
 
 -- a lookup from a walk on is what is left of it at the start: in a location list, and in a range list
-pub from_walk : (split : Bool) (encoding : Encoding) (endian : RunTimeEndian) (s table : List ℕ) (tableBase : DebugAddrBase) (a : ℕ) (w : Walk)
-    → lookup_location_from split encoding endian s table tableBase a w ≡ left a (gives not_there) (does true (dwarf split) encoding endian s table tableBase w.at w.base_address w.entries)
-from_walk split encoding endian s table tableBase a w =
-    at_first a _ ∙ ap (left a (gives not_there)) (sym (trace_carrying (list true (dwarf split) encoding endian s table tableBase) (table_at endian encoding tableBase table) encoding.address_size (length s) w))
+pub from_walk : (split : Bool) (s : List ℕ) (u : DwarfUnit) (a : ℕ) (w : Walk)
+    → lookup_location_from split u.encoding u.endian s u.debug_addr.now u.debug_addr_base a w ≡ left a (gives not_there) (does true (dwarf split) s u w.at w.base_address w.entries)
+from_walk split s u a w =
+    at_first a _ ∙ ap (left a (gives not_there)) (sym (trace_carrying (list true (dwarf split) s u) (table_in u) u.encoding.address_size (length s) w))
 
-pub from_range_walk : (coding : Coding) (encoding : Encoding) (endian : RunTimeEndian) (s table : List ℕ) (tableBase : DebugAddrBase) (a : ℕ) (w : Walk)
-    → lookup_range_from coding encoding endian s table tableBase a w ≡ left a (gives not_there) (does false coding encoding endian s table tableBase w.at w.base_address w.entries)
-from_range_walk coding encoding endian s table tableBase a w =
-    ap (lookup_in a) (trace_carrying (listed false coding encoding endian s) (table_at endian encoding tableBase table) encoding.address_size (length s) w)
-    ∙ at_first_range a (trace (with_entries (listed false coding encoding endian s)) (table_at endian encoding tableBase table) encoding.address_size (length s) w)
-    ∙ ap (left a (gives not_there)) (sym (trace_carrying (list false coding encoding endian s table tableBase) (table_at endian encoding tableBase table) encoding.address_size (length s) w))
+-- what was kept first
+pub kept_first : (k : Option LocationListEntry) (x : LocationListEntry)
+    → told_location_found (Ok (option_or k (Some x))) ≡ or_else (told_location_found (Ok k)) (gives (found (item x.range.begin x.range.end x.«data»)))
+kept_first (Some y) x = refl
+kept_first None x = refl
+
+-- for the loop over the steps
+pub ruleset seeking = (from_walk, step_past, step_bounded_held, step_bounded, step_default_held, step_default, step_base, step_nothing, step_failed, step_refused, step_end, kept_first, err_from_is_err_and)
+
+pub from_range_walk : (coding : Coding) (s : List ℕ) (u : DwarfUnit) (a : ℕ) (w : Walk)
+    → lookup_range_from_unit coding s u a w ≡ left a (gives not_there) (does false coding s u w.at w.base_address w.entries)
+from_range_walk coding s u a w =
+    ap (lookup_in a) (trace_carrying (listed false coding u.encoding u.endian s) (table_in u) u.encoding.address_size (length s) w)
+    ∙ at_first_range a (trace (with_entries (listed false coding u.encoding u.endian s)) (table_in u) u.encoding.address_size (length s) w)
+    ∙ ap (left a (gives not_there)) (sym (trace_carrying (list false coding s u) (table_in u) u.encoding.address_size (length s) w))

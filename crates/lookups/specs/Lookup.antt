@@ -1,10 +1,13 @@
 -- Lookup (docs/SCOPE.md, "Lookup"): the first yielded entry whose range holds an address; of a location list the first bounded one,
 -- and only where there is none, the first default location.
-use Rattle.std.specs.Prelude.{ℕ, Bool, false, not, ◌&&◌, List, leb, ltb, length}
+use Rattle.std.specs.Prelude.{ℕ, Bool, false, not, ◌&&◌, List, leb, ltb, length, Some, None, Ok, Err}
+use Rattle.std.specs.declared.option.Option.{Option}
+use Rattle.std.specs.declared.result.Result.{Result as Answer}
 use Rattle.section_bytes.specs.Read.{Result, gives, refused, and_then, pick}
 use Rattle.section_bytes.specs.Error.{refusal}
 use Rattle.section_bytes.specs.declared.common.DebugAddrBase.{DebugAddrBase}
 use Rattle.section_bytes.specs.declared.common.Encoding.{Encoding}
+use Rattle.section_bytes.specs.declared.error.Error.{Error}
 use Rattle.section_bytes.specs.declared.endianity.RunTimeEndian.{RunTimeEndian}
 use Rattle.entries.specs.Numbers.{Coding, dwarf, tabled}
 use Rattle.entries.specs.declared.Expression.{Expression}
@@ -13,11 +16,10 @@ use Rattle.lists.specs.Open.{opened}
 use Rattle.lists.specs.Convert.{table_at, expression_of}
 use Rattle.lists.specs.Walk.{listed, locations, Item, item, Trace, over, trace, handed}
 use Rattle.lists.specs.Walks.{is_default, with_entries}
+use Rattle.lists.specs.declared.Unit.{Unit as DwarfUnit}
 use Rattle.lists.specs.declared.Walk.{Walk}
-use Rattle.lookups.specs.declared.RangeFound.{RangeFound}
-use Rattle.lookups.specs.declared.RangeFound.TheVariants as range
-use Rattle.lookups.specs.declared.LocationFound.{LocationFound}
-use Rattle.lookups.specs.declared.LocationFound.TheVariants as location
+use Rattle.lists.specs.declared.Range.{Range}
+use Rattle.lists.specs.declared.LocationListEntry.{LocationListEntry}
 
 -- the entry found, or "not there"
 pub data Found (D : Type 0) : Type 0 where
@@ -43,6 +45,13 @@ lookup_range_in coding encoding endian s table tableBase offset base a =
 
 abbrev pub lookup_range : Encoding → RunTimeEndian → List ℕ → List ℕ → DebugAddrBase → ℕ → ℕ → ℕ → Result (Found Unit)
 lookup_range encoding endian s table tableBase offset base a = lookup_range_in (dwarf false) encoding endian s table tableBase offset base a
+
+-- the same in a unit
+abbrev pub lookup_range_from_unit : Coding → List ℕ → DwarfUnit → ℕ → Walk → Result (Found Unit)
+lookup_range_from_unit coding s u a w = lookup_range_from coding u.encoding u.endian s u.debug_addr.now u.debug_addr_base a w
+
+abbrev pub lookup_range_in_unit : Coding → List ℕ → DwarfUnit → ℕ → ℕ → ℕ → Result (Found Unit)
+lookup_range_in_unit coding s u offset base a = lookup_range_in coding u.encoding u.endian s u.debug_addr.now u.debug_addr_base offset base a
 
 -- with the kind numbers of a table
 abbrev pub lookup_range_by : List ℕ → Encoding → RunTimeEndian → List ℕ → List ℕ → DebugAddrBase → ℕ → ℕ → ℕ → Result (Found Unit)
@@ -94,15 +103,15 @@ abbrev pub lookup_location : Bool → Encoding → RunTimeEndian → List ℕ �
 lookup_location split encoding endian s table tableBase offset base a =
     and_then (opened encoding s offset base) (lookup_location_from split encoding endian s table tableBase a)
 
-abbrev pub told_range_found : RangeFound → Result (Found Unit)
-told_range_found (range.Found r) = gives (found (item r.begin r.end tt))
-told_range_found range.NotThere = gives not_there
-told_range_found (range.Refused e) = refusal e
+abbrev pub told_range_found : Answer (Option Range) Error → Result (Found Unit)
+told_range_found (Ok (Some r)) = gives (found (item r.begin r.end tt))
+told_range_found (Ok None) = gives not_there
+told_range_found (Err e) = refusal e
 
-abbrev pub told_location_found : LocationFound → Result (Found Expression)
-told_location_found (location.Found x) = gives (found (item x.range.begin x.range.end x.«data»))
-told_location_found location.NotThere = gives not_there
-told_location_found (location.Refused e) = refusal e
+abbrev pub told_location_found : Answer (Option LocationListEntry) Error → Result (Found Expression)
+told_location_found (Ok (Some x)) = gives (found (item x.range.begin x.range.end x.«data»))
+told_location_found (Ok None) = gives not_there
+told_location_found (Err e) = refusal e
 
 -- a range as the code finds it, with an expression that says nothing
 abbrev pub range_of : Result (Found Expression) → Result (Found Unit)

@@ -5,264 +5,137 @@
 ghost use Rattle.std.specs.Prelude.{◌≡◌, true, false};
 ghost use Rattle.section_bytes.specs.Common.{is_split};
 ghost use Rattle.section_bytes.specs.Reader.{is_size};
-ghost use Rattle.entries.specs.Numbers.{coding_of};
-ghost use Rattle.section_bytes.specs.Read.{gives};
-ghost use Rattle.lists.specs.Walk.{item};
-ghost use Rattle.lookups.specs.Lookup.{holds as holdsAt, found, lookup_range_from, range_of, told_range_found, lookup_range_in, lookup_range, lookup_range_by, or_else, lookup_location_from, told_location_found, lookup_location};
+ghost use Rattle.lists.specs.Walk.{coding_by};
+ghost use Rattle.lookups.specs.Lookup.{holds as holdsAt, range_of, told_range_found, lookup_range_from_unit, lookup_range_in_unit, lookup_range, lookup_range_by, told_location_found, lookup_location_from, lookup_location};
 
-use lists::loclists::{LocationAnswer, Stepped};
-use lists::{LocationListEntry, Opened, Range, Walk};
-use section_bytes::common::{
-    DebugAddrBase, DwarfFileType, Encoding, LocationListsOffset, RangeListsOffset,
-};
-use section_bytes::endianity::RunTimeEndian;
+use entries::Lists;
+use lists::listed::{Stepped, range_answer};
+use lists::{LocationListEntry, Range, Unit, Walk};
+use section_bytes::common::{DwarfFileType, LocationListsOffset, RangeListsOffset};
 use section_bytes::error::Error;
-
-#[derive(Clone, Copy)]
-pub enum RangeFound {
-    Found(Range),
-    NotThere,
-    Refused(Error),
-}
-
-#[derive(Clone, Copy)]
-pub enum LocationFound {
-    Found(LocationListEntry),
-    NotThere,
-    Refused(Error),
-}
 
 // Whether an address lies in a range.
 pub fn holds(range: Range, address: u64) -> bool
     ensures { result ≡ holdsAt address range.begin range.end }
 {
-    if range.begin <= address {
-        return address < range.end;
-    }
-    false
+    range.begin <= address && address < range.end
 }
 
 // The first range from a walk on that holds an address, or the first refusal met before it.
+#[tactic(auto, using(crate::proofs::LookupLaws::looking))]
 fn range_from(
     section: &[u8],
-    debug_addr: &[u8],
-    debug_addr_base: DebugAddrBase,
+    unit: &Unit,
+    kinds: Option<&[u8]>,
     start: Walk,
-    encoding: Encoding,
-    endian: RunTimeEndian,
-    by_table: bool,
-    kinds: &[u8],
     address: u64,
-) -> LocationFound
-    requires { is_size encoding.address_size ≡ true }
-    ensures { range_of (told_location_found result) ≡ lookup_range_from (coding_of false by_table kinds.now) encoding endian section.now debug_addr.now debug_addr_base address start }
+) -> Result<Option<LocationListEntry>, Error>
+    requires { is_size unit.now.encoding.address_size ≡ true }
+    ensures { range_of (told_location_found result) ≡ lookup_range_from_unit (coding_by kinds.entry) section.now unit.now address start }
 {
+    let ranges = Lists::Ranges(kinds);
     let mut walk = start;
     loop {
-        match lists::listed::next(
-            section,
-            debug_addr,
-            debug_addr_base,
-            walk,
-            encoding,
-            endian,
-            false,
-            false,
-            by_table,
-            kinds,
-        ) {
-            LocationAnswer::Location(item, after) => {
-                let range = item.range;
-                if holds(range, address) {
-                    return LocationFound::Found(item);
-                }
-                walk = after;
-            }
-            LocationAnswer::End(_) => {
-                return LocationFound::NotThere;
-            }
-            LocationAnswer::Refused(e, _) => {
-                return LocationFound::Refused(e);
-            }
+        let (answer, after) = lists::listed::next(section, unit, &ranges, walk);
+        let Some(item) = answer? else {
+            return Ok(None);
+        };
+        if holds(item.range, address) {
+            return Ok(Some(item));
         }
-    }
-}
-
-// A range found, without the expression that it has in the code.
-pub fn range_found(r: LocationFound) -> RangeFound
-    ensures { told_range_found result ≡ range_of (told_location_found r) }
-{
-    match r {
-        LocationFound::Found(x) => {
-            let range = x.range;
-            RangeFound::Found(range)
-        }
-        LocationFound::NotThere => RangeFound::NotThere,
-        LocationFound::Refused(e) => RangeFound::Refused(e),
+        walk = after;
     }
 }
 
 // The first range of the list at an offset that holds an address, with the kind numbers of DWARF or of a table.
+#[tactic(auto, using(lists::proofs::OpenLaws::opened_size))]
 fn lookup_in(
     section: &[u8],
-    debug_addr: &[u8],
-    debug_addr_base: DebugAddrBase,
+    unit: &Unit,
+    kinds: Option<&[u8]>,
     offset: RangeListsOffset,
     base_address: u64,
-    encoding: Encoding,
-    endian: RunTimeEndian,
-    by_table: bool,
-    kinds: &[u8],
     address: u64,
-) -> RangeFound
-    ensures { told_range_found result ≡ lookup_range_in (coding_of false by_table kinds.now) encoding endian section.now debug_addr.now debug_addr_base offset.0 base_address address }
+) -> Result<Option<Range>, Error>
+    ensures { told_range_found result ≡ lookup_range_in_unit (coding_by kinds.entry) section.now unit.now offset.0 base_address address }
 {
-    match lists::rnglists::ranges(section, offset, encoding, base_address) {
-        Opened::Refused(e) => RangeFound::Refused(e),
-        Opened::List(start) => {
-            let found = range_from(
-                section,
-                debug_addr,
-                debug_addr_base,
-                start,
-                encoding,
-                endian,
-                by_table,
-                kinds,
-                address,
-            );
-            range_found(found)
-        }
-    }
+    let start = lists::rnglists::ranges(section, offset, unit.encoding, base_address)?;
+    range_answer(range_from(section, unit, kinds, start, address))
 }
 
-// The first range of the list at an offset that holds an address: the refusals of opening, then the first that the walk
+// The first range of the list at an offset that holds an address, or none: the refusals of opening, then the first that the walk
 // meets before that range. What follows it is not read.
 pub fn lookup_range(
     section: &[u8],
-    debug_addr: &[u8],
-    debug_addr_base: DebugAddrBase,
+    unit: &Unit,
     offset: RangeListsOffset,
     base_address: u64,
-    encoding: Encoding,
-    endian: RunTimeEndian,
     address: u64,
-) -> RangeFound
-    ensures { told_range_found result ≡ lookup_range encoding endian section.now debug_addr.now debug_addr_base offset.0 base_address address }
+) -> Result<Option<Range>, Error>
+    ensures { let u = unit.now in told_range_found result ≡ lookup_range u.encoding u.endian section.now u.debug_addr.now u.debug_addr_base offset.0 base_address address }
 {
-    lookup_in(
-        section,
-        debug_addr,
-        debug_addr_base,
-        offset,
-        base_address,
-        encoding,
-        endian,
-        false,
-        section,
-        address,
-    )
+    lookup_in(section, unit, None, offset, base_address, address)
 }
 
 // The same by a table of kind numbers, which bare pairs have no use for.
 pub fn lookup_range_by(
     section: &[u8],
-    debug_addr: &[u8],
-    debug_addr_base: DebugAddrBase,
+    unit: &Unit,
     offset: RangeListsOffset,
     base_address: u64,
-    encoding: Encoding,
-    endian: RunTimeEndian,
     kinds: &[u8],
     address: u64,
-) -> RangeFound
-    ensures { told_range_found result ≡ lookup_range_by kinds.now encoding endian section.now debug_addr.now debug_addr_base offset.0 base_address address }
+) -> Result<Option<Range>, Error>
+    ensures { let u = unit.now in told_range_found result ≡ lookup_range_by kinds.now u.encoding u.endian section.now u.debug_addr.now u.debug_addr_base offset.0 base_address address }
 {
-    lookup_in(
-        section,
-        debug_addr,
-        debug_addr_base,
-        offset,
-        base_address,
-        encoding,
-        endian,
-        true,
-        kinds,
-        address,
-    )
-}
-
-// What was found first.
-pub fn first_found(kept: LocationFound, location: LocationListEntry) -> LocationFound
-    ensures { told_location_found result ≡ or_else (told_location_found kept) (gives (found (item location.range.begin location.range.end location.«data»))) }
-{
-    match kept {
-        LocationFound::NotThere => LocationFound::Found(location),
-        LocationFound::Found(first) => LocationFound::Found(first),
-        LocationFound::Refused(e) => LocationFound::Refused(e),
-    }
+    lookup_in(section, unit, Some(kinds), offset, base_address, address)
 }
 
 // The first bounded location from a walk on whose range holds an address, or the first refusal met before it; at the end of the
 // list the first default location, which is kept until then.
+#[tactic(auto, using(crate::proofs::SeekLaws::seeking))]
 fn location_from(
     section: &[u8],
-    debug_addr: &[u8],
-    debug_addr_base: DebugAddrBase,
+    unit: &Unit,
+    file_type: DwarfFileType,
     start: Walk,
-    encoding: Encoding,
-    endian: RunTimeEndian,
-    split: bool,
     address: u64,
-) -> LocationFound
-    ensures { told_location_found result ≡ lookup_location_from split encoding endian section.now debug_addr.now debug_addr_base address start }
+) -> Result<Option<LocationListEntry>, Error>
+    ensures { let u = unit.now in told_location_found result ≡ lookup_location_from (is_split file_type) u.encoding u.endian section.now u.debug_addr.now u.debug_addr_base address start }
 {
+    let locations = Lists::Locations(file_type);
     let mut at = start.at;
     let mut base_address = start.base_address;
-    let mut kept = LocationFound::NotThere;
-    loop {
-        match lists::loclists::step(
-            section,
-            debug_addr,
-            debug_addr_base,
-            at,
-            base_address,
-            encoding,
-            endian,
-            split,
-        ) {
-            Stepped::Bounded(location, c) => {
-                let range = location.range;
-                if holds(range, address) {
-                    return LocationFound::Found(location);
+    let mut kept: Option<LocationListEntry> = None;
+    while let Some((stepped, after)) = lists::listed::step(
+        section,
+        unit,
+        &locations,
+        at,
+        base_address,
+    )? {
+        match stepped {
+            Stepped::Bounded(location) => {
+                if holds(location.range, address) {
+                    return Ok(Some(location));
                 }
-                at = c;
             }
-            Stepped::Default(location, c) => {
-                let whole = location.range;
-                if holds(whole, address) {
-                    kept = first_found(kept, location);
+            Stepped::Default(location) => {
+                if holds(location.range, address) {
+                    kept = kept.or(Some(location));
                 }
-                at = c;
             }
-            Stepped::Base(b, c) => {
+            Stepped::Base(b) => {
                 base_address = b;
-                at = c;
             }
-            Stepped::Nothing(c) => {
-                at = c;
-            }
-            Stepped::Failed(failed, _) => {
-                return LocationFound::Refused(failed);
-            }
-            Stepped::End => {
-                return kept;
-            }
-            Stepped::Refused(refused) => {
-                return LocationFound::Refused(refused);
+            Stepped::Nothing => {}
+            Stepped::Failed(e) => {
+                return Err(e);
             }
         }
+        at = after;
     }
+    Ok(kept)
 }
 
 // The location of an address in the list at an offset, plain or split: of the first bounded entry whose range holds it, and where
@@ -270,31 +143,14 @@ fn location_from(
 // before that bounded entry, also behind a default location. What follows the bounded entry is not read.
 pub fn lookup_location(
     section: &[u8],
-    debug_addr: &[u8],
-    debug_addr_base: DebugAddrBase,
+    unit: &Unit,
     offset: LocationListsOffset,
     base_address: u64,
-    encoding: Encoding,
-    endian: RunTimeEndian,
     file_type: DwarfFileType,
     address: u64,
-) -> LocationFound
-    ensures { told_location_found result ≡ lookup_location (is_split file_type) encoding endian section.now debug_addr.now debug_addr_base offset.0 base_address address }
+) -> Result<Option<LocationListEntry>, Error>
+    ensures { let u = unit.now in told_location_found result ≡ lookup_location (is_split file_type) u.encoding u.endian section.now u.debug_addr.now u.debug_addr_base offset.0 base_address address }
 {
-    match lists::loclists::locations(section, offset, encoding, base_address) {
-        Opened::Refused(e) => LocationFound::Refused(e),
-        Opened::List(start) => {
-            let split = file_type.is_split();
-            location_from(
-                section,
-                debug_addr,
-                debug_addr_base,
-                start,
-                encoding,
-                endian,
-                split,
-                address,
-            )
-        }
-    }
+    let start = lists::loclists::locations(section, offset, unit.encoding, base_address)?;
+    location_from(section, unit, file_type, start, address)
 }

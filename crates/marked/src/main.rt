@@ -1,95 +1,133 @@
-// Marks set and returned to among calls of next: on range lists, then on location lists (locations.rt). The file stdout has the answers by
-// docs/SCOPE.md: what each step comes to and, in parentheses, the walk then by its place, base address and count. All is hexadecimal but
-// the number of a refusal, behind which its value stands, 0 where it has none.
+// Marks set and returned to among calls of next, on range lists and on location lists. The file stdout has the answers by
+// docs/SCOPE.md: what each call comes to and, in parentheses, the walk then by its place, base address and count. Behind a location's
+// range the place and the length of its expression stand. All is hexadecimal but the number of a refusal, behind which its value stands,
+// 0 where it has none.
 #![tactic(auto)]
 
-mod locations;
-
-use lists::rnglists::RangeAnswer;
-use lists::{Opened, Range, Walk};
-use marks::{MarkAnswer, MarkedWalk, Marking};
-use section_bytes::common::{DebugAddrBase, Encoding, Format, RangeListsOffset};
+use Call::{Next, Return, Set};
+use entries::Lists;
+use lists::{LocationListEntry, Range, Unit, Walk};
+use marks::MarkedWalk;
+use section_bytes::common::{
+    DebugAddrBase, DwarfFileType, Encoding, Format, LocationListsOffset, RangeListsOffset,
+};
 use section_bytes::endianity::RunTimeEndian;
 use section_bytes::error::Error;
 use std::io;
+
+// A call over a list: next, or by the number of a mark.
+#[derive(Clone, Copy)]
+enum Call {
+    Next,
+    Set(u64),
+    Return(u64),
+}
 
 fn say(rt: &impl Print, text: &[u8]) -> io::Result<()> {
     rt.write_all(text)
 }
 
-fn put(rt: &impl Print, x: u64) -> io::Result<()> {
-    say(rt, b" ")?;
-    print!(rt; "{x:x}")
+// A range or a location.
+trait Item: Copy {
+    fn print(self, rt: &impl Print) -> io::Result<()>;
 }
 
-fn range(rt: &impl Print, x: Range) -> io::Result<()> {
-    put(rt, x.begin)?;
-    put(rt, x.end)
+impl Item for Range {
+    fn print(self, rt: &impl Print) -> io::Result<()> {
+        print!(rt; " {:x} {:x}", self.begin, self.end)
+    }
+}
+
+impl Item for LocationListEntry {
+    fn print(self, rt: &impl Print) -> io::Result<()> {
+        self.range.print(rt)?;
+        print!(rt; " expression {:x} {:x}", self.data.offset, self.data.len)
+    }
 }
 
 fn refused(rt: &impl Print, e: Error) -> io::Result<()> {
-    say(rt, b" refused ")?;
-    print!(rt; "{}", e.number())?;
-    put(rt, e.value())
+    print!(rt; " refused {} {:x}", e.number(), e.value())
 }
 
-fn stands(rt: &impl Print, m: MarkedWalk) -> io::Result<MarkedWalk> {
-    let walk = m.walk;
-    say(rt, b" (")?;
-    print!(rt; "{:x}", walk.at as u64)?;
-    say(rt, b",")?;
-    put(rt, walk.base_address)?;
-    say(rt, b",")?;
-    put(rt, walk.entries)?;
-    say(rt, b")")?;
+fn read<I: Item>(
+    rt: &impl Print,
+    (answer, walk): (Result<Option<I>, Error>, Walk),
+) -> io::Result<Walk> {
+    match answer {
+        Ok(Some(item)) => item.print(rt)?,
+        Ok(None) => say(rt, b" end")?,
+        Err(e) => refused(rt, e)?,
+    }
+    Ok(walk)
+}
+
+fn next(rt: &impl Print, list: &[u8], unit: &Unit, lists: &Lists, walk: Walk) -> io::Result<Walk> {
+    match *lists {
+        Lists::Ranges(_) => read(rt, lists::rnglists::next(list, unit, walk)),
+        Lists::Locations(file_type) => {
+            read(rt, lists::loclists::next(list, unit, walk, file_type))
+        }
+    }
+}
+
+fn marked(
+    rt: &impl Print,
+    name: &str,
+    number: u64,
+    (answer, m): (Result<(), Error>, MarkedWalk),
+) -> io::Result<MarkedWalk> {
+    print!(rt; " {name} {number:x}")?;
+    match answer {
+        Ok(()) => say(rt, b" done")?,
+        Err(e) => refused(rt, e)?,
+    }
     Ok(m)
 }
 
-// A call that reads knows nothing of marks: its walk is put in the place of the one that it took.
-fn read(rt: &impl Print, m: MarkedWalk, walk: Walk) -> io::Result<MarkedWalk> {
-    let mut after = m;
-    after.walk = walk;
-    stands(rt, after)
-}
-
-fn answered(rt: &impl Print, r: MarkAnswer) -> io::Result<MarkedWalk> {
-    let marking = r.marking;
-    match marking {
-        Marking::Done => say(rt, b" done")?,
-        Marking::Refused(e) => refused(rt, e)?,
+// Calls one after the other, from an opening on.
+fn each(
+    rt: &impl Print,
+    label: &[u8],
+    list: &[u8],
+    unit: &Unit,
+    lists: &Lists,
+    opened: Result<Walk, Error>,
+    calls: &[Call],
+) -> io::Result<()> {
+    say(rt, label)?;
+    let start = match opened {
+        Ok(walk) => walk,
+        Err(e) => {
+            refused(rt, e)?;
+            at(0)
+        }
+    };
+    let mut m = MarkedWalk::new(start);
+    for call in calls {
+        m = match *call {
+            // A call that reads knows nothing of marks: its walk is put in the place of the one that it took.
+            Next => MarkedWalk {
+                walk: next(rt, list, unit, lists, m.walk)?,
+                ..m
+            },
+            Set(number) => marked(rt, "set", number, m.set_mark(number))?,
+            Return(number) => marked(rt, "return", number, m.return_to(number))?,
+        };
+        let walk = m.walk;
+        print!(rt;
+            " ({:x}, {:x}, {:x})",
+            walk.at, walk.base_address, walk.entries
+        )?;
     }
-    let m = r.walk;
-    stands(rt, m)
+    say(rt, b"\n")
 }
 
-fn set(rt: &impl Print, m: MarkedWalk, number: u64) -> io::Result<MarkedWalk> {
-    say(rt, b" set")?;
-    put(rt, number)?;
-    answered(rt, m.set_mark(number))
-}
-
-fn back(rt: &impl Print, m: MarkedWalk, number: u64) -> io::Result<MarkedWalk> {
-    say(rt, b" return")?;
-    put(rt, number)?;
-    answered(rt, m.return_to(number))
-}
-
-// A walk made by hand, with no mark set.
-fn at(place: usize) -> MarkedWalk {
-    MarkedWalk::new(Walk {
+// A walk made by hand.
+fn at(place: usize) -> Walk {
+    Walk {
         at: place,
         base_address: 0,
         entries: 0,
-    })
-}
-
-fn start(rt: &impl Print, r: Opened) -> io::Result<MarkedWalk> {
-    match r {
-        Opened::List(walk) => Ok(MarkedWalk::new(walk)),
-        Opened::Refused(e) => {
-            refused(rt, e)?;
-            Ok(at(0))
-        }
     }
 }
 
@@ -101,141 +139,164 @@ fn encoding(version: u16, address_size: u8) -> Encoding {
     }
 }
 
-fn open(rt: &impl Print, list: &[u8]) -> io::Result<MarkedWalk> {
-    start(
-        rt,
-        lists::rnglists::ranges(list, RangeListsOffset(0), encoding(5, 4), 0),
-    )
-}
-
 // Two addresses, 10 and 20, behind their header.
-fn next_sized(
-    rt: &impl Print,
-    list: &[u8],
-    address_size: u8,
-    m: MarkedWalk,
-) -> io::Result<MarkedWalk> {
-    let table = b"\x0c\0\0\0\x05\0\x04\0\x10\0\0\0\x20\0\0\0";
-    match lists::rnglists::next(
-        list,
-        table,
-        DebugAddrBase(8),
-        m.walk,
-        encoding(5, address_size),
-        RunTimeEndian::Little,
-    ) {
-        RangeAnswer::Range(x, walk) => {
-            range(rt, x)?;
-            read(rt, m, walk)
-        }
-        RangeAnswer::End(walk) => {
-            say(rt, b" end")?;
-            read(rt, m, walk)
-        }
-        RangeAnswer::Refused(e, walk) => {
-            refused(rt, e)?;
-            read(rt, m, walk)
-        }
+fn sized(address_size: u8) -> Unit<'static> {
+    Unit {
+        encoding: encoding(5, address_size),
+        endian: RunTimeEndian::Little,
+        debug_addr: b"\x0c\0\0\0\x05\0\x04\0\x10\0\0\0\x20\0\0\0",
+        debug_addr_base: DebugAddrBase(8),
     }
 }
 
-fn next(rt: &impl Print, list: &[u8], m: MarkedWalk) -> io::Result<MarkedWalk> {
-    next_sized(rt, list, 4, m)
-}
-
-fn three(rt: &impl Print, list: &[u8], m: MarkedWalk) -> io::Result<MarkedWalk> {
-    next(rt, list, next(rt, list, next(rt, list, m)?)?)
-}
-
-fn calls_again(rt: &impl Print, list: &[u8]) -> io::Result<()> {
-    say(rt, b"the same calls:")?;
-    let m = set(rt, next(rt, list, open(rt, list)?)?, 0)?;
-    three(rt, list, back(rt, three(rt, list, m)?, 0)?)?;
-    say(rt, b"\n")
-}
-
-fn base_again(rt: &impl Print, list: &[u8]) -> io::Result<()> {
-    say(rt, b"base address:")?;
-    let m = set(rt, next(rt, list, open(rt, list)?)?, 7)?;
-    next(rt, list, back(rt, next(rt, list, m)?, 7)?)?;
-    say(rt, b"\n")
-}
-
-// Marks 0 and 7, for which 8 and the largest number could be taken, are set, and a third one.
-fn numbers(rt: &impl Print, list: &[u8]) -> io::Result<()> {
-    say(rt, b"numbers above 7:")?;
-    let m = set(
+// A range list's calls from a walk made by hand.
+fn from(
+    rt: &impl Print,
+    label: &[u8],
+    list: &[u8],
+    address_size: u8,
+    walk: Walk,
+    calls: &[Call],
+) -> io::Result<()> {
+    let unit = sized(address_size);
+    each(
         rt,
-        set(rt, set(rt, next(rt, list, open(rt, list)?)?, 0)?, 3)?,
-        7,
-    )?;
-    let eight = back(rt, set(rt, next(rt, list, m)?, 8)?, 8)?;
-    let largest = back(
+        label,
+        list,
+        &unit,
+        &Lists::Ranges(None),
+        Ok(walk),
+        calls,
+    )
+}
+
+fn ranges(rt: &impl Print, label: &[u8], list: &[u8], calls: &[Call]) -> io::Result<()> {
+    let unit = sized(4);
+    let opened = lists::rnglists::ranges(list, RangeListsOffset(0), unit.encoding, 0);
+    each(rt, label, list, &unit, &Lists::Ranges(None), opened, calls)
+}
+
+// A mark behind the first location; then the second and the end, twice. Two addresses, 10 and 20, without a header.
+fn locations(
+    rt: &impl Print,
+    label: &[u8],
+    list: &[u8],
+    version: u16,
+    file_type: DwarfFileType,
+) -> io::Result<()> {
+    let unit = Unit {
+        encoding: encoding(version, 4),
+        endian: RunTimeEndian::Little,
+        debug_addr: b"\x10\0\0\0\x20\0\0\0",
+        debug_addr_base: DebugAddrBase(0),
+    };
+    let opened = lists::loclists::locations(list, LocationListsOffset(0), unit.encoding, 0);
+    each(
         rt,
-        set(rt, eight, 0xffff_ffff_ffff_ffff)?,
-        0xffff_ffff_ffff_ffff,
-    )?;
-    next(rt, list, back(rt, back(rt, back(rt, largest, 0)?, 7)?, 3)?)?;
-    say(rt, b"\n")
-}
-
-fn never_set(rt: &impl Print, list: &[u8]) -> io::Result<()> {
-    say(rt, b"never set:")?;
-    next(rt, list, back(rt, next(rt, list, open(rt, list)?)?, 5)?)?;
-    say(rt, b"\n")
-}
-
-fn set_again(rt: &impl Print, list: &[u8]) -> io::Result<()> {
-    say(rt, b"set again:")?;
-    let m = next(rt, list, set(rt, next(rt, list, open(rt, list)?)?, 2)?)?;
-    next(rt, list, back(rt, next(rt, list, set(rt, m, 2)?)?, 2)?)?;
-    say(rt, b"\n")
-}
-
-fn two_returns(rt: &impl Print, list: &[u8]) -> io::Result<()> {
-    say(rt, b"two returns:")?;
-    let m = next(rt, list, set(rt, next(rt, list, open(rt, list)?)?, 0)?)?;
-    let again = back(rt, back(rt, next(rt, list, set(rt, m, 1)?)?, 0)?, 0)?;
-    next(rt, list, back(rt, again, 1)?)?;
-    say(rt, b"\n")
-}
-
-fn another_size(rt: &impl Print, list: &[u8]) -> io::Result<()> {
-    say(rt, b"size 5:")?;
-    back(
-        rt,
-        next_sized(rt, list, 5, back(rt, set(rt, at(0), 0)?, 0)?)?,
-        0,
-    )?;
-    say(rt, b"\n")
-}
-
-fn failed_lookup(rt: &impl Print, list: &[u8]) -> io::Result<()> {
-    say(rt, b"failed lookup:")?;
-    let m = set(rt, open(rt, list)?, 0)?;
-    three(rt, list, back(rt, three(rt, list, m)?, 0)?)?;
-    say(rt, b"\n")
-}
-
-fn past_the_end(rt: &impl Print, list: &[u8]) -> io::Result<()> {
-    say(rt, b"place 63:")?;
-    next(rt, list, back(rt, set(rt, at(99), 0)?, 0)?)?;
-    say(rt, b"\n")
+        label,
+        list,
+        &unit,
+        &Lists::Locations(file_type),
+        opened,
+        &[Next, Set(6), Next, Next, Return(6), Next, Next],
+    )
 }
 
 fn main(rt: HostRuntime) -> io::Result<()> {
     let list = b"\x07\x10\0\0\0\x01\x07\x20\0\0\0\x01\x07\x30\0\0\0\x01\0";
-    calls_again(&rt, list)?;
-    base_again(
+    ranges(
         &rt,
-        b"\x05\0\x10\0\0\x04\x01\x02\x05\0\x20\0\0\x04\x03\x04\0",
+        b"the same calls:",
+        list,
+        &[Next, Set(0), Next, Next, Next, Return(0), Next, Next, Next],
     )?;
-    numbers(&rt, list)?;
-    never_set(&rt, list)?;
-    set_again(&rt, list)?;
-    two_returns(&rt, list)?;
-    another_size(&rt, b"\0")?;
-    failed_lookup(&rt, b"\x02\0\x02\x03\0\x08\0")?;
-    past_the_end(&rt, list)?;
-    locations::locations(&rt)
+    ranges(
+        &rt,
+        b"base address:",
+        b"\x05\0\x10\0\0\x04\x01\x02\x05\0\x20\0\0\x04\x03\x04\0",
+        &[Next, Set(7), Next, Return(7), Next],
+    )?;
+    // Marks 0 and 7, for which 8 and the largest number could be taken, are set, and a third one.
+    let largest = 0xffff_ffff_ffff_ffff;
+    ranges(
+        &rt,
+        b"numbers above 7:",
+        list,
+        &[
+            Next,
+            Set(0),
+            Set(3),
+            Set(7),
+            Next,
+            Set(8),
+            Return(8),
+            Set(largest),
+            Return(largest),
+            Return(0),
+            Return(7),
+            Return(3),
+            Next,
+        ],
+    )?;
+    ranges(&rt, b"never set:", list, &[Next, Return(5), Next])?;
+    ranges(
+        &rt,
+        b"set again:",
+        list,
+        &[Next, Set(2), Next, Set(2), Next, Return(2), Next],
+    )?;
+    ranges(
+        &rt,
+        b"two returns:",
+        list,
+        &[
+            Next,
+            Set(0),
+            Next,
+            Set(1),
+            Next,
+            Return(0),
+            Return(0),
+            Return(1),
+            Next,
+        ],
+    )?;
+    from(
+        &rt,
+        b"size 5:",
+        b"\0",
+        5,
+        at(0),
+        &[Set(0), Return(0), Next, Return(0)],
+    )?;
+    ranges(
+        &rt,
+        b"failed lookup:",
+        b"\x02\0\x02\x03\0\x08\0",
+        &[Set(0), Next, Next, Next, Return(0), Next, Next, Next],
+    )?;
+    from(
+        &rt,
+        b"place 63:",
+        list,
+        4,
+        at(99),
+        &[Set(0), Return(0), Next],
+    )?;
+    // Base 1000 and the pair 1 and 2 with the expression 50; base 2000 and the pair 3 and 4 with 91 08; the end mark.
+    locations(
+        &rt,
+        b"locations:",
+        b"\x06\0\x10\0\0\x04\x01\x02\x01\x50\x06\0\x20\0\0\x04\x03\x04\x02\x91\x08\0",
+        5,
+        DwarfFileType::Main,
+    )?;
+    // By index and length: from row 0 on eight addresses with the expression 50, from row 1 on four with 91 7c; the end mark.
+    locations(
+        &rt,
+        b"split, version 4:",
+        b"\x03\0\x08\0\0\0\x01\0\x50\x03\x01\x04\0\0\0\x02\0\x91\x7c\0",
+        4,
+        DwarfFileType::Dwo,
+    )
 }

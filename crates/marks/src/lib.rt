@@ -3,39 +3,17 @@
 #![tactic(auto)]
 
 ghost use Rattle.std.specs.Prelude.{◌≡◌};
-ghost use Rattle.section_bytes.specs.Error.{refusal};
-ghost use Rattle.section_bytes.specs.declared.error.Error.TheVariants.{NoSuchMark};
 ghost use Rattle.marks.specs.Marks.{fresh, set_mark, return_to, answered};
-ghost use Rattle.marks.specs.Told.{structs, marked_in, told};
+ghost use Rattle.marks.specs.Told.{structs, marked_in, told_marking};
 
 use lists::Walk;
 use section_bytes::error::Error;
 
-// A mark, and the walk that it stores where it is set.
-#[derive(Clone, Copy)]
-pub struct Mark {
-    pub is_set: bool,
-    pub walk: Walk,
-}
-
-// A walk, and its marks by number, 0 to 7.
+// A walk, and its marks by number, 0 to 7: where one is set, the walk that it stores.
 #[derive(Clone, Copy)]
 pub struct MarkedWalk {
     pub walk: Walk,
-    pub marks: [Mark; 8],
-}
-
-#[derive(Clone, Copy)]
-pub enum Marking {
-    Done,
-    Refused(Error),
-}
-
-// What a call comes to, and the walk with its marks then.
-#[derive(Clone, Copy)]
-pub struct MarkAnswer {
-    pub marking: Marking,
-    pub walk: MarkedWalk,
+    pub marks: [Option<Walk>; 8],
 }
 
 impl MarkedWalk {
@@ -43,62 +21,34 @@ impl MarkedWalk {
     pub fn new(walk: Walk) -> MarkedWalk
         ensures { marked_in result ≡ fresh structs walk }
     {
-        let nowhere = Walk {
-            at: 0,
-            base_address: 0,
-            entries: 0,
-        };
-        let unset = Mark {
-            is_set: false,
-            walk: nowhere,
-        };
-        let marks = [unset; 8];
-        MarkedWalk { walk, marks }
+        MarkedWalk {
+            walk,
+            marks: [None; 8],
+        }
     }
 
     // Stores the walk in a mark, in place of what was there: 13 for a number above 7.
-    pub fn set_mark(self, number: u64) -> MarkAnswer
-        ensures { told result ≡ answered (marked_in self) (set_mark structs number (marked_in self)) }
+    pub fn set_mark(self, number: u64) -> (Result<(), Error>, MarkedWalk)
+        ensures { told_marking result.0 result.1 ≡ answered (marked_in self) (set_mark structs number (marked_in self)) }
     {
         if number < 8 {
-            let walk = self.walk;
             let mut after = self;
-            after.marks[number as usize] = Mark { is_set: true, walk };
-            return MarkAnswer {
-                marking: Marking::Done,
-                walk: after,
-            };
+            after.marks[number as usize] = Some(self.walk);
+            return (Ok(()), after);
         }
-        refused(self)
+        (Err(Error::NoSuchMark), self)
     }
 
     // Brings back the walk that a mark stores, and leaves the marks: 13 for a number above 7, and for a mark that is not set.
-    pub fn return_to(self, number: u64) -> MarkAnswer
-        ensures { told result ≡ answered (marked_in self) (return_to structs number (marked_in self)) }
+    pub fn return_to(self, number: u64) -> (Result<(), Error>, MarkedWalk)
+        ensures { told_marking result.0 result.1 ≡ answered (marked_in self) (return_to structs number (marked_in self)) }
     {
-        if 7 < number {
-            return refused(self);
+        if number < 8 {
+            if let Some(walk) = self.marks[number as usize] {
+                let marks = self.marks;
+                return (Ok(()), MarkedWalk { walk, marks });
+            }
         }
-        let mark = self.marks[number as usize];
-        if mark.is_set {
-            let walk = mark.walk;
-            let marks = self.marks;
-            let back = MarkedWalk { walk, marks };
-            return MarkAnswer {
-                marking: Marking::Done,
-                walk: back,
-            };
-        }
-        refused(self)
-    }
-}
-
-// 13: the walk and its marks are as they were.
-fn refused(walk: MarkedWalk) -> MarkAnswer
-    ensures { told result ≡ answered (marked_in walk) (refusal NoSuchMark) }
-{
-    MarkAnswer {
-        marking: Marking::Refused(Error::NoSuchMark),
-        walk,
+        (Err(Error::NoSuchMark), self)
     }
 }

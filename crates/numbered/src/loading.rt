@@ -1,6 +1,5 @@
 // Tables, and which of them are loaded.
 use super::{refused, say};
-use entries::kinds::Loading;
 use std::io;
 
 // A supplier's: 10, 11 and 14 to 17 for the kinds 0, 1 and 4 to 7, and no code for kinds 2 and 3.
@@ -18,22 +17,17 @@ pub(crate) fn supplier() -> [u8; 256] {
 // DWARF's own numbers.
 pub(crate) fn fixed() -> [u8; 256] {
     let mut t = [0xffu8; 256];
-    t[0] = 0;
-    t[1] = 1;
-    t[2] = 2;
-    t[3] = 3;
-    t[4] = 4;
-    t[5] = 5;
-    t[6] = 6;
-    t[7] = 7;
+    for kind in 0..8u8 {
+        t[kind as usize] = kind;
+    }
     t
 }
 
 fn load(rt: &impl Print, label: &[u8], table: &[u8]) -> io::Result<()> {
     say(rt, label)?;
     match entries::kinds::load(table) {
-        Loading::Loaded => say(rt, b" loaded")?,
-        Loading::Refused(e) => refused(rt, e)?,
+        Ok(()) => say(rt, b" loaded")?,
+        Err(e) => refused(rt, e)?,
     }
     say(rt, b"\n")
 }

@@ -6,12 +6,10 @@
 
 mod loading;
 
-use coverage::{Made, Verdict, Wrote};
-use entries::RawRngListEntry;
-use lists::rnglists::{RangeAnswer, RawRangeAnswer};
-use lists::{Range, Walk};
-use lookups::RangeFound;
-use section_bytes::Num;
+use coverage::Coverage;
+use entries::{Noted, RawRngListEntry};
+use lists::{Range, Unit, Walk};
+use section_bytes::Read;
 use section_bytes::common::{DebugAddrBase, Encoding, Format, RangeListsOffset};
 use section_bytes::endianity::RunTimeEndian;
 use section_bytes::error::Error;
@@ -21,82 +19,65 @@ fn say(rt: &impl Print, text: &[u8]) -> io::Result<()> {
     rt.write_all(text)
 }
 
-fn put(rt: &impl Print, name: &[u8], x: u64) -> io::Result<()> {
-    say(rt, name)?;
-    print!(rt; "{x:x}")
-}
-
-fn two(rt: &impl Print, name: &[u8], a: u64, b: u64) -> io::Result<()> {
-    put(rt, name, a)?;
-    put(rt, b" ", b)
-}
-
 fn refused(rt: &impl Print, e: Error) -> io::Result<()> {
-    say(rt, b" refused ")?;
-    print!(rt; "{}", e.number())?;
-    put(rt, b" ", e.value())
+    print!(rt; " refused {} {:x}", e.number(), e.value())
 }
 
 fn range(rt: &impl Print, x: Range) -> io::Result<()> {
-    two(rt, b" ", x.begin, x.end)
+    print!(rt; " {:x} {:x}", x.begin, x.end)
 }
 
 fn stands(rt: &impl Print, walk: Walk, padded: bool) -> io::Result<Walk> {
-    put(rt, b" (", walk.at as u64)?;
-    put(rt, b", ", walk.base_address)?;
-    put(rt, b", ", walk.entries)?;
-    if padded {
-        say(rt, b", padded")?;
-    }
-    say(rt, b")")?;
+    let padded = if padded { ", padded" } else { "" };
+    print!(rt;
+        " ({:x}, {:x}, {:x}{padded})",
+        walk.at, walk.base_address, walk.entries
+    )?;
     Ok(walk)
 }
 
-fn answer(rt: &impl Print, r: RangeAnswer) -> io::Result<Walk> {
-    match r {
-        RangeAnswer::Range(x, after) => {
-            range(rt, x)?;
-            stands(rt, after, false)
-        }
-        RangeAnswer::End(after) => {
-            say(rt, b" end")?;
-            stands(rt, after, false)
-        }
-        RangeAnswer::Refused(e, after) => {
-            refused(rt, e)?;
-            stands(rt, after, false)
-        }
+fn answer(
+    rt: &impl Print,
+    (answer, after): (Result<Option<Range>, Error>, Walk),
+) -> io::Result<Walk> {
+    match answer {
+        Ok(Some(x)) => range(rt, x)?,
+        Ok(None) => say(rt, b" end")?,
+        Err(e) => refused(rt, e)?,
     }
+    stands(rt, after, false)
 }
 
 fn bounds(rt: &impl Print, raw: RawRngListEntry) -> io::Result<()> {
     match raw {
-        RawRngListEntry::AddressOrOffsetPair(b, e) => two(rt, b" pair ", b, e),
-        RawRngListEntry::BaseAddress(a) => put(rt, b" base ", a),
-        RawRngListEntry::BaseAddressx(i) => put(rt, b" base by index ", i.0),
-        RawRngListEntry::StartxEndx(i, j) => two(rt, b" start and end by index ", i.0, j.0),
-        RawRngListEntry::StartxLength(i, n) => two(rt, b" start by index and length ", i.0, n),
-        RawRngListEntry::OffsetPair(b, e) => two(rt, b" offsets ", b, e),
-        RawRngListEntry::StartEnd(b, e) => two(rt, b" start and end ", b, e),
-        RawRngListEntry::StartLength(b, n) => two(rt, b" start and length ", b, n),
+        RawRngListEntry::AddressOrOffsetPair(b, e) => print!(rt; " pair {b:x} {e:x}"),
+        RawRngListEntry::BaseAddress(a) => print!(rt; " base {a:x}"),
+        RawRngListEntry::BaseAddressx(i) => print!(rt; " base by index {:x}", i.0),
+        RawRngListEntry::StartxEndx(i, j) => print!(rt;
+            " start and end by index {:x} {:x}",
+            i.0, j.0
+        ),
+        RawRngListEntry::StartxLength(i, n) => print!(rt;
+            " start by index and length {:x} {n:x}",
+            i.0
+        ),
+        RawRngListEntry::OffsetPair(b, e) => print!(rt; " offsets {b:x} {e:x}"),
+        RawRngListEntry::StartEnd(b, e) => print!(rt; " start and end {b:x} {e:x}"),
+        RawRngListEntry::StartLength(b, n) => print!(rt; " start and length {b:x} {n:x}"),
     }
 }
 
-fn raw_answer(rt: &impl Print, r: RawRangeAnswer) -> io::Result<Walk> {
-    match r {
-        RawRangeAnswer::Entry(raw, padded, after) => {
-            bounds(rt, raw)?;
-            stands(rt, after, padded)
-        }
-        RawRangeAnswer::End(after) => {
-            say(rt, b" end")?;
-            stands(rt, after, false)
-        }
-        RawRangeAnswer::Refused(e, after) => {
-            refused(rt, e)?;
-            stands(rt, after, false)
-        }
+fn raw_answer(
+    rt: &impl Print,
+    (answer, after): (Result<Option<Noted<RawRngListEntry>>, Error>, Walk),
+) -> io::Result<Walk> {
+    match answer {
+        Ok(Some(noted)) => bounds(rt, noted.entry)?,
+        Ok(None) => say(rt, b" end")?,
+        Err(e) => refused(rt, e)?,
     }
+    let padded = matches!(answer, Ok(Some(Noted { padded: true, .. })));
+    stands(rt, after, padded)
 }
 
 fn encoding(version: u16, address_size: u8) -> Encoding {
@@ -107,128 +88,87 @@ fn encoding(version: u16, address_size: u8) -> Encoding {
     }
 }
 
-// Two addresses, 10 and 20, without a header.
-fn next(
-    rt: &impl Print,
-    list: &[u8],
-    walk: Walk,
-    encoding: Encoding,
-    by_table: bool,
-    kinds: &[u8],
-) -> io::Result<Walk> {
-    let addresses = b"\x10\0\0\0\x20\0\0\0";
-    let little = RunTimeEndian::Little;
-    if by_table {
-        return answer(
-            rt,
-            lists::rnglists::next_by(
-                list,
-                addresses,
-                DebugAddrBase(0),
-                walk,
-                encoding,
-                little,
-                kinds,
-            ),
-        );
+// The table of addresses has no header.
+fn unit(encoding: Encoding, debug_addr: &[u8]) -> Unit<'_> {
+    Unit {
+        encoding,
+        endian: RunTimeEndian::Little,
+        debug_addr,
+        debug_addr_base: DebugAddrBase(0),
     }
-    answer(
-        rt,
-        lists::rnglists::next(list, addresses, DebugAddrBase(0), walk, encoding, little),
-    )
-}
-
-fn next_raw(
-    rt: &impl Print,
-    list: &[u8],
-    walk: Walk,
-    encoding: Encoding,
-    by_table: bool,
-    kinds: &[u8],
-) -> io::Result<Walk> {
-    let little = RunTimeEndian::Little;
-    if by_table {
-        return raw_answer(
-            rt,
-            lists::rnglists::next_raw_by(list, walk, encoding, little, kinds),
-        );
-    }
-    raw_answer(rt, lists::rnglists::next_raw(list, walk, encoding, little))
-}
-
-fn calls(
-    rt: &impl Print,
-    list: &[u8],
-    encoding: Encoding,
-    by_table: bool,
-    kinds: &[u8],
-) -> io::Result<()> {
-    let start = Walk {
-        at: 0,
-        base_address: 0x1000,
-        entries: 0,
-    };
-    let first = next(rt, list, start, encoding, by_table, kinds)?;
-    let second = next(rt, list, first, encoding, by_table, kinds)?;
-    next(rt, list, second, encoding, by_table, kinds)?;
-    say(rt, b"; raw:")?;
-    let first_raw = next_raw(rt, list, start, encoding, by_table, kinds)?;
-    let second_raw = next_raw(rt, list, first_raw, encoding, by_table, kinds)?;
-    next_raw(rt, list, second_raw, encoding, by_table, kinds)?;
-    say(rt, b"\n")
-}
-
-fn wide(x: u8) -> u64 {
-    x as u64
 }
 
 fn print_bytes(rt: &impl Print, bytes: &[u8]) -> io::Result<()> {
-    for x in bytes {
-        say(rt, b" ")?;
-        print!(rt; "{:02x}", wide(*x))?;
+    for &x in bytes {
+        print!(rt; " {x:02x}")?;
     }
     Ok(())
 }
 
+// The table has two addresses, 10 and 20.
 fn read(
     rt: &impl Print,
     name: &[u8],
     list: &[u8],
     encoding: Encoding,
-    by_table: bool,
-    kinds: &[u8],
+    kinds: Option<&[u8]>,
 ) -> io::Result<()> {
     say(rt, name)?;
     print_bytes(rt, list)?;
     say(rt, b":")?;
-    calls(rt, list, encoding, by_table, kinds)
+    let unit = unit(encoding, b"\x10\0\0\0\x20\0\0\0");
+    let start = Walk {
+        at: 0,
+        base_address: 0x1000,
+        entries: 0,
+    };
+    let mut walk = start;
+    for _ in 0..3 {
+        let next = match kinds {
+            Some(table) => lists::rnglists::next_by(list, &unit, walk, table),
+            None => lists::rnglists::next(list, &unit, walk),
+        };
+        walk = answer(rt, next)?;
+    }
+    say(rt, b"; raw:")?;
+    walk = start;
+    for _ in 0..3 {
+        let next = match kinds {
+            Some(table) => {
+                lists::rnglists::next_raw_by(list, walk, encoding, unit.endian, table)
+            }
+            None => lists::rnglists::next_raw(list, walk, encoding, unit.endian),
+        };
+        walk = raw_answer(rt, next)?;
+    }
+    say(rt, b"\n")
 }
 
 fn plain(rt: &impl Print, list: &[u8]) -> io::Result<()> {
-    read(rt, b"no table,", list, encoding(5, 4), false, list)
+    read(rt, b"no table,", list, encoding(5, 4), None)
 }
 
 fn by_fixed(rt: &impl Print, list: &[u8]) -> io::Result<()> {
     let kinds = loading::fixed();
-    read(rt, b"fixed,", list, encoding(5, 4), true, &kinds)
+    read(rt, b"fixed,", list, encoding(5, 4), Some(&kinds))
 }
 
 fn by_supplier(rt: &impl Print, list: &[u8]) -> io::Result<()> {
     let kinds = loading::supplier();
-    read(rt, b"supplier,", list, encoding(5, 4), true, &kinds)
+    read(rt, b"supplier,", list, encoding(5, 4), Some(&kinds))
 }
 
 // By the eight codes the other way round, kind 7 first.
 fn by_reversed(rt: &impl Print, list: &[u8]) -> io::Result<()> {
     let kinds = b"\x07\x06\x05\x04\x03\x02\x01\0";
-    read(rt, b"reversed,", list, encoding(5, 4), true, kinds)
+    read(rt, b"reversed,", list, encoding(5, 4), Some(kinds))
 }
 
 // By a table that is not loaded.
 fn by(rt: &impl Print, kinds: &[u8], list: &[u8]) -> io::Result<()> {
     say(rt, b"table")?;
     print_bytes(rt, kinds)?;
-    read(rt, b",", list, encoding(5, 4), true, kinds)
+    read(rt, b",", list, encoding(5, 4), Some(kinds))
 }
 
 fn look_up(
@@ -239,58 +179,46 @@ fn look_up(
     address: u64,
 ) -> io::Result<()> {
     say(rt, label)?;
-    match lookups::lookup_range_by(
-        list,
-        list,
-        DebugAddrBase(0),
-        RangeListsOffset(0),
-        0,
-        encoding(5, 4),
-        RunTimeEndian::Little,
-        kinds,
-        address,
-    ) {
-        RangeFound::Found(x) => range(rt, x)?,
-        RangeFound::NotThere => say(rt, b" not there")?,
-        RangeFound::Refused(e) => refused(rt, e)?,
+    let unit = unit(encoding(5, 4), list);
+    match lookups::lookup_range_by(list, &unit, RangeListsOffset(0), 0, kinds, address) {
+        Ok(Some(x)) => range(rt, x)?,
+        Ok(None) => say(rt, b" not there")?,
+        Err(e) => refused(rt, e)?,
     }
     say(rt, b"\n")
 }
 
-// How many runs a coverage has, and the first two places of its arrays.
-fn made(rt: &impl Print, m: Made) -> io::Result<()> {
-    let verdict = m.verdict;
-    let c = m.coverage;
-    match verdict {
-        Verdict::Made => put(rt, b" runs ", c.n as u64)?,
-        Verdict::Refused(e) => refused(rt, e)?,
+// How many runs a coverage has, and the first two places of its arrays; 0 where there is none.
+fn made(rt: &impl Print, made: Result<Coverage, Error>) -> io::Result<()> {
+    match made {
+        Ok(c) => {
+            print!(rt; " runs {:x}: ", c.n)?;
+            print!(rt;
+                "{:x} {:x}, {:x} {:x}",
+                c.begins[0], c.ends[0], c.begins[1], c.ends[1]
+            )?;
+        }
+        Err(e) => {
+            refused(rt, e)?;
+            say(rt, b": 0 0, 0 0")?;
+        }
     }
-    two(rt, b": ", c.begins[0], c.ends[0])?;
-    two(rt, b", ", c.begins[1], c.ends[1])?;
     say(rt, b"\n")
 }
 
 fn cover(rt: &impl Print, label: &[u8], kinds: &[u8], list: &[u8]) -> io::Result<()> {
     say(rt, label)?;
+    let unit = unit(encoding(5, 4), list);
     made(
         rt,
-        coverage::collect::range_coverage_by(
-            list,
-            list,
-            DebugAddrBase(0),
-            RangeListsOffset(0),
-            0,
-            encoding(5, 4),
-            RunTimeEndian::Little,
-            kinds,
-        ),
+        coverage::collect::range_coverage_by(list, &unit, RangeListsOffset(0), 0, kinds),
     )
 }
 
-fn number(rt: &impl Print, r: Num) -> io::Result<()> {
-    match r {
-        Num::Got(x, _) => put(rt, b" ", x),
-        Num::Refused(e) => refused(rt, e),
+fn number(rt: &impl Print, number: Read<u64>) -> io::Result<()> {
+    match number {
+        Ok((x, _)) => print!(rt; " {x:x}"),
+        Err(e) => refused(rt, e),
     }
 }
 
@@ -299,19 +227,17 @@ fn number(rt: &impl Print, r: Num) -> io::Result<()> {
 fn canonical(rt: &impl Print, label: &[u8], kinds: &[u8], list: &[u8]) -> io::Result<()> {
     let mut out = [0xffu8; 11];
     say(rt, label)?;
+    let unit = unit(encoding(5, 4), list);
     match canonical::of_list::canonical_ranges_by(
         list,
-        list,
-        DebugAddrBase(0),
+        &unit,
         RangeListsOffset(0),
         0,
-        encoding(5, 4),
-        RunTimeEndian::Little,
         kinds,
         &mut out,
     ) {
-        Wrote::Bytes(n) => put(rt, b" bytes ", n as u64)?,
-        Wrote::Refused(e) => refused(rt, e)?,
+        Ok(n) => print!(rt; " bytes {n:x}")?,
+        Err(e) => refused(rt, e)?,
     }
     say(rt, b":")?;
     number(rt, section_bytes::reader::read_u8(&out, 0))?;
@@ -394,24 +320,21 @@ fn encodings(rt: &impl Print, kinds: &[u8]) -> io::Result<()> {
         b"version 4, size 2,",
         b"\x01\0\x02\0\0\0\0\0",
         encoding(4, 2),
-        true,
-        kinds,
+        Some(kinds),
     )?;
     read(
         rt,
         b"version 6, size 4,",
         b"\x14\x01\x05\x10",
         encoding(6, 4),
-        true,
-        kinds,
+        Some(kinds),
     )?;
     read(
         rt,
         b"version 5, size 5,",
         b"\0\x14",
         encoding(5, 5),
-        true,
-        kinds,
+        Some(kinds),
     )
 }
 

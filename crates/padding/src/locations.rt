@@ -1,84 +1,24 @@
 // Location lists: an entry's bounds, where a default location has 0 and 2^64 - 1, then the place and the length of its expression, 0 and 0
 // where it has none.
-use super::{encoding, ended, line, refused, refused_at, say, setting, two, walk};
-use entries::{RawLocListEntry, RawLocationStep};
-use lists::Walk;
-use lists::loclists::RawLocationAnswer;
-use section_bytes::common::{DwarfFileType, Encoding};
+use super::{encoding, read_list, say, sized_list};
+use entries::Lists;
+use section_bytes::common::DwarfFileType;
 use section_bytes::endianity::RunTimeEndian;
 use std::io;
 
-fn entry(rt: &impl Print, raw: RawLocListEntry, padded: bool, after: usize) -> io::Result<()> {
-    super::entry(rt, entries::raw::bounds_of(raw), padded, after)?;
-    let x = lists::convert::expression_of(raw);
-    two(rt, b" expression ", x.offset as u64, x.len as u64)
-}
-
-fn step(
-    rt: &impl Print,
-    list: &[u8],
-    before: Walk,
-    encoding: Encoding,
-    file_type: DwarfFileType,
-) -> io::Result<Walk> {
-    let little = RunTimeEndian::Little;
-    match lists::loclists::next_raw(list, before, encoding, little, file_type) {
-        RawLocationAnswer::Entry(raw, padded, after) => {
-            entry(rt, raw, padded, after.at)?;
-            Ok(after)
-        }
-        RawLocationAnswer::End(after) => ended(rt, after),
-        RawLocationAnswer::Refused(e, after) => refused_at(rt, e, after),
-    }
-}
-
-fn raw_entry(
-    rt: &impl Print,
-    list: &[u8],
-    encoding: Encoding,
-    file_type: DwarfFileType,
-) -> io::Result<()> {
-    let little = RunTimeEndian::Little;
-    match entries::loclists::raw_location_entry(list, 0, encoding, little, file_type) {
-        RawLocationStep::Entry(raw, padded, after) => entry(rt, raw, padded, after),
-        RawLocationStep::End => say(rt, b" end"),
-        RawLocationStep::Refused(e) => refused(rt, e),
-    }
-}
-
-fn read_list(
-    rt: &impl Print,
-    list: &[u8],
-    encoding: Encoding,
-    file_type: DwarfFileType,
-) -> io::Result<()> {
-    line(rt, list, 0)?;
-    raw_entry(rt, list, encoding, file_type)?;
-    say(rt, b";")?;
-    let first = step(rt, list, walk(0), encoding, file_type)?;
-    let second = step(rt, list, first, encoding, file_type)?;
-    step(rt, list, second, encoding, file_type)?;
-    say(rt, b"\n")
-}
-
 fn location(rt: &impl Print, list: &[u8]) -> io::Result<()> {
-    read_list(rt, list, encoding(5, 4), DwarfFileType::Main)
+    let lists = Lists::Locations(DwarfFileType::Main);
+    read_list(rt, &lists, list, 0, encoding(5, 4), RunTimeEndian::Little)
 }
 
 fn sized(rt: &impl Print, version: u16, address_size: u8, list: &[u8]) -> io::Result<()> {
-    setting(rt, version, address_size)?;
-    read_list(
-        rt,
-        list,
-        encoding(version, address_size),
-        DwarfFileType::Main,
-    )
+    let lists = Lists::Locations(DwarfFileType::Main);
+    sized_list(rt, &lists, version, address_size, list)
 }
 
 fn split(rt: &impl Print, list: &[u8]) -> io::Result<()> {
     say(rt, b"split, ")?;
-    setting(rt, 4, 4)?;
-    read_list(rt, list, encoding(4, 4), DwarfFileType::Dwo)
+    sized_list(rt, &Lists::Locations(DwarfFileType::Dwo), 4, 4, list)
 }
 
 fn examples(rt: &impl Print) -> io::Result<()> {

@@ -5,91 +5,46 @@
 
 mod locations;
 
-use entries::{RawRangeStep, RawRngListEntry};
+use entries::{Lists, Noted, RawLocListEntry, RawRngListEntry};
 use lists::Walk;
-use lists::rnglists::RawRangeAnswer;
 use section_bytes::common::{Encoding, Format};
 use section_bytes::endianity::RunTimeEndian;
 use section_bytes::error::Error;
-use section_bytes::leb128::NumberAnswer;
 use std::io;
 
 fn say(rt: &impl Print, text: &[u8]) -> io::Result<()> {
     rt.write_all(text)
 }
 
-fn put(rt: &impl Print, name: &[u8], x: u64) -> io::Result<()> {
-    say(rt, name)?;
-    print!(rt; "{x:x}")
-}
-
-fn two(rt: &impl Print, name: &[u8], a: u64, b: u64) -> io::Result<()> {
-    put(rt, name, a)?;
-    put(rt, b" ", b)
-}
-
-fn wide(x: u8) -> u64 {
-    x as u64
-}
-
-fn print_bytes(rt: &impl Print, bytes: &[u8]) -> io::Result<()> {
-    for x in bytes {
-        print!(rt; "{:02x}", wide(*x))?;
-        say(rt, b" ")?;
-    }
-    Ok(())
-}
-
 fn line(rt: &impl Print, bytes: &[u8], at: usize) -> io::Result<()> {
-    print_bytes(rt, bytes)?;
-    put(rt, b"at ", at as u64)?;
-    say(rt, b":")
+    for &x in bytes {
+        print!(rt; "{x:02x} ")?;
+    }
+    print!(rt; "at {at:x}:")
 }
 
 fn setting(rt: &impl Print, version: u16, address_size: u8) -> io::Result<()> {
-    put(rt, b"version ", version as u64)?;
-    put(rt, b", size ", address_size as u64)?;
-    say(rt, b": ")
+    print!(rt; "version {version:x}, size {address_size:x}: ")
 }
 
 fn read(rt: &impl Print, after: usize, padded: bool) -> io::Result<()> {
-    put(rt, b" (", after as u64)?;
-    if padded {
-        say(rt, b", padded")?;
-    }
-    say(rt, b")")
+    let padded = if padded { ", padded" } else { "" };
+    print!(rt; " ({after:x}{padded})")
 }
 
 fn refused(rt: &impl Print, e: Error) -> io::Result<()> {
-    two(rt, b" refused ", e.number(), e.value())
-}
-
-fn ended(rt: &impl Print, walk: Walk) -> io::Result<Walk> {
-    say(rt, b" end")?;
-    read(rt, walk.at, false)?;
-    Ok(walk)
-}
-
-fn refused_at(rt: &impl Print, e: Error, walk: Walk) -> io::Result<Walk> {
-    refused(rt, e)?;
-    read(rt, walk.at, false)?;
-    Ok(walk)
-}
-
-fn with_length(rt: &impl Print, section: &[u8], at: usize) -> io::Result<()> {
-    match section_bytes::leb128::with_length(section, at) {
-        NumberAnswer::Got(x, after) => {
-            put(rt, b" ", x.value)?;
-            put(rt, b", length ", x.len as u64)?;
-            read(rt, after, x.padded)
-        }
-        NumberAnswer::Refused(e) => refused(rt, e),
-    }
+    print!(rt; " refused {:x} {:x}", e.number(), e.value())
 }
 
 fn number(rt: &impl Print, section: &[u8], at: usize) -> io::Result<()> {
     line(rt, section, at)?;
-    with_length(rt, section, at)?;
+    match section_bytes::leb128::with_length(section, at) {
+        Ok((x, after)) => {
+            print!(rt; " {:x}, length {:x}", x.value, x.len)?;
+            read(rt, after, x.padded)?;
+        }
+        Err(e) => refused(rt, e)?,
+    }
     say(rt, b"\n")
 }
 
@@ -101,96 +56,147 @@ fn encoding(version: u16, address_size: u8) -> Encoding {
     }
 }
 
-fn walk(at: usize) -> Walk {
-    Walk {
-        at,
-        base_address: 0,
-        entries: 0,
-    }
+// An entry of either list, with the place after it and whether it was padded.
+trait Entry: Copy {
+    fn print(self, rt: &impl Print, after: usize, padded: bool) -> io::Result<()>;
 }
 
-fn bounds(rt: &impl Print, raw: RawRngListEntry) -> io::Result<()> {
-    match raw {
-        RawRngListEntry::AddressOrOffsetPair(b, e) => two(rt, b" pair ", b, e),
-        RawRngListEntry::BaseAddress(a) => put(rt, b" base ", a),
-        RawRngListEntry::BaseAddressx(i) => put(rt, b" base by index ", i.0),
-        RawRngListEntry::StartxEndx(i, j) => two(rt, b" start and end by index ", i.0, j.0),
-        RawRngListEntry::StartxLength(i, n) => two(rt, b" start by index and length ", i.0, n),
-        RawRngListEntry::OffsetPair(b, e) => two(rt, b" offsets ", b, e),
-        RawRngListEntry::StartEnd(b, e) => two(rt, b" start and end ", b, e),
-        RawRngListEntry::StartLength(b, n) => two(rt, b" start and length ", b, n),
-    }
-}
-
-fn entry(rt: &impl Print, raw: RawRngListEntry, padded: bool, after: usize) -> io::Result<()> {
-    bounds(rt, raw)?;
-    read(rt, after, padded)
-}
-
-fn step(
-    rt: &impl Print,
-    list: &[u8],
-    before: Walk,
-    encoding: Encoding,
-    endian: RunTimeEndian,
-) -> io::Result<Walk> {
-    match lists::rnglists::next_raw(list, before, encoding, endian) {
-        RawRangeAnswer::Entry(raw, padded, after) => {
-            entry(rt, raw, padded, after.at)?;
-            Ok(after)
+impl Entry for RawRngListEntry {
+    fn print(self, rt: &impl Print, after: usize, padded: bool) -> io::Result<()> {
+        match self {
+            RawRngListEntry::AddressOrOffsetPair(b, e) => print!(rt; " pair {b:x} {e:x}")?,
+            RawRngListEntry::BaseAddress(a) => print!(rt; " base {a:x}")?,
+            RawRngListEntry::BaseAddressx(i) => print!(rt; " base by index {:x}", i.0)?,
+            RawRngListEntry::StartxEndx(i, j) => print!(rt;
+                " start and end by index {:x} {:x}",
+                i.0, j.0
+            )?,
+            RawRngListEntry::StartxLength(i, n) => print!(rt;
+                " start by index and length {:x} {n:x}",
+                i.0
+            )?,
+            RawRngListEntry::OffsetPair(b, e) => print!(rt; " offsets {b:x} {e:x}")?,
+            RawRngListEntry::StartEnd(b, e) => print!(rt; " start and end {b:x} {e:x}")?,
+            RawRngListEntry::StartLength(b, n) => print!(rt; " start and length {b:x} {n:x}")?,
         }
-        RawRangeAnswer::End(after) => ended(rt, after),
-        RawRangeAnswer::Refused(e, after) => refused_at(rt, e, after),
+        read(rt, after, padded)
     }
 }
 
-fn raw_entry(
-    rt: &impl Print,
-    list: &[u8],
-    at: usize,
-    encoding: Encoding,
-    endian: RunTimeEndian,
-) -> io::Result<()> {
-    match entries::rnglists::raw_range_entry(list, at, encoding, endian) {
-        RawRangeStep::Entry(raw, padded, after) => entry(rt, raw, padded, after),
-        RawRangeStep::End => say(rt, b" end"),
-        RawRangeStep::Refused(e) => refused(rt, e),
+impl Entry for RawLocListEntry {
+    fn print(self, rt: &impl Print, after: usize, padded: bool) -> io::Result<()> {
+        entries::raw::bounds_of(self).print(rt, after, padded)?;
+        let x = lists::convert::expression_of(self);
+        print!(rt; " expression {:x} {:x}", x.offset, x.len)
     }
+}
+
+fn raw_entry<E: Entry>(
+    rt: &impl Print,
+    answer: Result<Option<(Noted<E>, usize)>, Error>,
+) -> io::Result<()> {
+    match answer {
+        Ok(Some((noted, after))) => noted.entry.print(rt, after, noted.padded),
+        Ok(None) => say(rt, b" end"),
+        Err(e) => refused(rt, e),
+    }
+}
+
+fn step<E: Entry>(
+    rt: &impl Print,
+    (answer, after): (Result<Option<Noted<E>>, Error>, Walk),
+) -> io::Result<Walk> {
+    match answer {
+        Ok(Some(noted)) => noted.entry.print(rt, after.at, noted.padded)?,
+        Ok(None) => {
+            say(rt, b" end")?;
+            read(rt, after.at, false)?;
+        }
+        Err(e) => {
+            refused(rt, e)?;
+            read(rt, after.at, false)?;
+        }
+    }
+    Ok(after)
 }
 
 fn read_list(
     rt: &impl Print,
+    lists: &Lists,
     list: &[u8],
     at: usize,
-    encoding: Encoding,
+    p: Encoding,
     endian: RunTimeEndian,
 ) -> io::Result<()> {
     line(rt, list, at)?;
-    raw_entry(rt, list, at, encoding, endian)?;
-    say(rt, b";")?;
-    let first = step(rt, list, walk(at), encoding, endian)?;
-    let second = step(rt, list, first, encoding, endian)?;
-    step(rt, list, second, encoding, endian)?;
+    let mut walk = Walk {
+        at,
+        base_address: 0,
+        entries: 0,
+    };
+    match *lists {
+        Lists::Ranges(_) => {
+            raw_entry(rt, entries::rnglists::raw_range_entry(list, at, p, endian))?;
+            say(rt, b";")?;
+            for _ in 0..3 {
+                walk = step(rt, lists::rnglists::next_raw(list, walk, p, endian))?;
+            }
+        }
+        Lists::Locations(file) => {
+            raw_entry(
+                rt,
+                entries::loclists::raw_location_entry(list, at, p, endian, file),
+            )?;
+            say(rt, b";")?;
+            for _ in 0..3 {
+                walk = step(rt, lists::loclists::next_raw(list, walk, p, endian, file))?;
+            }
+        }
+    }
     say(rt, b"\n")
 }
 
 fn from(rt: &impl Print, at: usize, list: &[u8]) -> io::Result<()> {
-    read_list(rt, list, at, encoding(5, 4), RunTimeEndian::Little)
+    read_list(
+        rt,
+        &Lists::Ranges(None),
+        list,
+        at,
+        encoding(5, 4),
+        RunTimeEndian::Little,
+    )
 }
 
 fn range(rt: &impl Print, list: &[u8]) -> io::Result<()> {
     from(rt, 0, list)
 }
 
-fn sized(rt: &impl Print, version: u16, address_size: u8, list: &[u8]) -> io::Result<()> {
+fn sized_list(
+    rt: &impl Print,
+    lists: &Lists,
+    version: u16,
+    address_size: u8,
+    list: &[u8],
+) -> io::Result<()> {
     setting(rt, version, address_size)?;
     let p = encoding(version, address_size);
-    read_list(rt, list, 0, p, RunTimeEndian::Little)
+    read_list(rt, lists, list, 0, p, RunTimeEndian::Little)
+}
+
+fn sized(rt: &impl Print, version: u16, address_size: u8, list: &[u8]) -> io::Result<()> {
+    sized_list(rt, &Lists::Ranges(None), version, address_size, list)
 }
 
 fn big(rt: &impl Print, list: &[u8]) -> io::Result<()> {
     say(rt, b"big: ")?;
-    read_list(rt, list, 0, encoding(5, 4), RunTimeEndian::Big)
+    read_list(
+        rt,
+        &Lists::Ranges(None),
+        list,
+        0,
+        encoding(5, 4),
+        RunTimeEndian::Big,
+    )
 }
 
 fn numbers(rt: &impl Print) -> io::Result<()> {

@@ -9,6 +9,8 @@ use native.Mathlib.Omega.{arith}
 use lib.Dec.{leb}
 use lib.ListN.{length}
 use borrow.Author.Tests.{le-leb, lt-leb, leb-false}
+use Rattle.std.specs.Prelude.{Err}
+use Rattle.std.specs.declared.result.Result.{Result as Answer}
 use Rattle.section_bytes.specs.Read.{Result, gives, refused, got, Read, pick}
 use Rattle.section_bytes.specs.Reader.{is_size}
 use Rattle.section_bytes.specs.declared.common.DebugAddrIndex.{DebugAddrIndex}
@@ -31,24 +33,22 @@ use Rattle.lists.proofs.Past.{listed_past}
 use Rattle.lists.proofs.WalkLaws as walk
 use Rattle.lists.proofs.WalkLaws.{Moved, trace_over}
 use Rattle.profile.specs.Carried.{CarriedOn, by_opening, by_next, by_next_raw, by_convert_raw, by_profile, CountsWith, EmptiedAt, CountedInProfile}
-use Rattle.profile.specs.Profile.{of_read, profile_next}
+use Rattle.profile.specs.Profile.{kept, of_read, profile_next}
 use Rattle.profile.specs.Profiled.{behind_turn, behind_read, behind_one, behind, held_at}
-use Rattle.profile.specs.declared.held.Held.{Held}
-use Rattle.profile.specs.declared.held.Held.TheVariants.{Kept, Broken}
 use Rattle.profile.proofs.ProfileLaws.{profile_over, next_first}
 use Rattle.profile.proofs.UpToLaws.{every_profile}
 
 -- what is one of the three is an entry that was read
 broken_read : (l : Listing) (padded : ℕ → Bool) (table : DebugAddrIndex → Result ℕ) (size : ℕ) (w : Walk) (r : Read (Raw l.Entry)) (x : Error)
-    → of_read l padded table size w r ≡ Broken x → (e : l.Entry) × ((c : ℕ) × (r ≡ gives (got (entry e) c)))
+    → of_read l padded table size w r ≡ Err x → (e : l.Entry) × ((c : ℕ) × (r ≡ gives (got (entry e) c)))
 broken_read l padded table size w (gives (got (entry e) c)) x h = (e, (c, refl))
 broken_read l padded table size w (gives (got stop c)) x h = let z : ◌≡◌ {A = ℕ} 0 1 = cc in absurd (omega arith)
 broken_read l padded table size w (refused n vs) x h = let z : ◌≡◌ {A = ℕ} 0 1 = cc in absurd (omega arith)
 
-broken_before : (len at : ℕ) (h : Held) (x : Error) → pick (leb len at) Kept h ≡ Broken x → (at < len) × (h ≡ Broken x)
+broken_before : (len at : ℕ) (h : Answer Unit Error) (x : Error) → pick (leb len at) kept h ≡ Err x → (at < len) × (h ≡ Err x)
 broken_before len at h x = by (leb len at) refl
   where
-    by : (b : Bool) → leb len at ≡ b → pick b Kept h ≡ Broken x → (at < len) × (h ≡ Broken x)
+    by : (b : Bool) → leb len at ≡ b → pick b kept h ≡ Err x → (at < len) × (h ≡ Err x)
     by true e q = let z : ◌≡◌ {A = ℕ} 0 1 = cc in absurd (omega arith)
     by false e q = (leb-false len at e, q)
 
@@ -113,7 +113,7 @@ module _ (encoding : Encoding) (s : List ℕ) (l : Listing) (padded : ℕ → Bo
 
   -- the entry that is refused is counted as by a raw call
   module _ (counted : Counted encoding s l offset) (b : length s < 2 ^ 64) where
-    counts_with : (w : Walk) (table : DebugAddrIndex → Result ℕ) (x : Error) → Reached encoding s l offset w → held_at l padded table size (length s) w ≡ Broken x
+    counts_with : (w : Walk) (table : DebugAddrIndex → Result ℕ) (x : Error) → Reached encoding s l offset w → held_at l padded table size (length s) w ≡ Err x
         → CountsWith l offset w.at (read_to (length s) w).entries
     counts_with w table x p q =
         let k = broken_before (length s) w.at (of_read l padded table size w (l.read w.at)) x q in
@@ -126,7 +126,7 @@ module _ (encoding : Encoding) (s : List ℕ) (l : Listing) (padded : ℕ → Bo
           as_many = counted.exact b (subst (Reached encoding s l offset) v (ordinary.by_next_raw w p));
         }
 
-    emptied_at : (w : Walk) (table : DebugAddrIndex → Result ℕ) (x : Error) → Reached encoding s l offset w → held_at l padded table size (length s) w ≡ Broken x
+    emptied_at : (w : Walk) (table : DebugAddrIndex → Result ℕ) (x : Error) → Reached encoding s l offset w → held_at l padded table size (length s) w ≡ Err x
         → EmptiedAt encoding s l padded offset (read_to (length s) w)
     emptied_at w table x p q = record { place = refl; met = w; reached = p; table = table; refused = x; stands = q; counted = counts_with w table x p q }
 

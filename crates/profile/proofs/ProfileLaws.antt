@@ -8,6 +8,8 @@ use Prim.Native.Nat.{ℕ, zero, suc, ◌+◌, ◌≤◌, ◌<◌}
 use native.Mathlib.Omega.{arith}
 use lib.Dec.{leb}
 use borrow.Author.Tests.{le-leb, lt-leb, leb-false}
+use Rattle.std.specs.Prelude.{Err}
+use Rattle.std.specs.declared.result.Result.{Result as Answer}
 use Rattle.section_bytes.specs.Error.{refusal}
 use Rattle.section_bytes.specs.Read.{Result, gives, refused, got, Read}
 use Rattle.section_bytes.specs.Reader.{is_size}
@@ -22,9 +24,7 @@ use Rattle.lists.specs.Convert.{Turn, convert}
 use Rattle.lists.specs.Walk.{Listing, Trace, over, handed, on_turn, on_read, first}
 use Rattle.lists.specs.declared.Walk.{Walk}
 use Rattle.lists.proofs.WalkLaws.{Moved, pick_else, read_cong}
-use Rattle.profile.specs.Profile.{of_entry, of_read, unless, profile_from, profile, profile_next}
-use Rattle.profile.specs.declared.held.Held.{Held}
-use Rattle.profile.specs.declared.held.Held.TheVariants.{Kept, Broken}
+use Rattle.profile.specs.Profile.{kept, of_entry, of_read, unless, profile_from, profile, profile_next}
 
 module _ (l : Listing) (padded : ℕ → Bool) (table : DebugAddrIndex → Result ℕ) (size len : ℕ) (past : (at : ℕ) → at < len → Moved at len (l.read at)) where
   -- more fuel changes nothing, once there is as much as there are bytes left
@@ -66,16 +66,16 @@ module _ (l : Listing) (padded : ℕ → Bool) (table : DebugAddrIndex → Resul
       met_refusal q = read_as q
 
       module _ {e : l.Entry} {c : ℕ} (q : l.read w.at ≡ gives (got (entry e) c)) where
-        held_as : {x : Held} → of_entry (padded w.at) table size w.base_address (l.bounds_of e) ≡ x
+        held_as : {x : Answer Unit Error} → of_entry (padded w.at) table size w.base_address (l.bounds_of e) ≡ x
             → profile l padded table size len w ≡ unless x (read_to len w) (on_read l table size len w (gives (got (entry e) c)) (λ v. profile l padded table size len v))
-        held_as k = read_as q ∙ ap (λ (x : Held). unless x (read_to len w) (on_read l table size len w (gives (got (entry e) c)) (λ v. profile l padded table size len v))) k
+        held_as k = read_as q ∙ ap (λ (x : Answer Unit Error). unless x (read_to len w) (on_read l table size len w (gives (got (entry e) c)) (λ v. profile l padded table size len v))) k
 
-        pub met_entry : {t : Result Turn} → of_entry (padded w.at) table size w.base_address (l.bounds_of e) ≡ Kept → t ≡ convert table size w.base_address (l.bounds_of e)
+        pub met_entry : {t : Result Turn} → of_entry (padded w.at) table size w.base_address (l.bounds_of e) ≡ kept → t ≡ convert table size w.base_address (l.bounds_of e)
             → profile l padded table size len w ≡ on_turn t (l.carried e) (read_to c w) (λ v. profile l padded table size len v)
         met_entry k p = held_as k ∙ ap (λ (x : Result Turn). on_turn x (l.carried e) (read_to c w) (λ v. profile l padded table size len v)) (sym p)
 
         -- one of the three is refused, and the walk is emptied
-        pub met_broken : {x : Error} → of_entry (padded w.at) table size w.base_address (l.bounds_of e) ≡ Broken x
+        pub met_broken : {x : Error} → of_entry (padded w.at) table size w.base_address (l.bounds_of e) ≡ Err x
             → profile l padded table size len w ≡ handed (refusal x) (read_to len w) (over (read_to len w))
         met_broken k = held_as k
 

@@ -6,6 +6,9 @@ use mathlib.Core.List.{List}
 use Prim.Native.Nat.{ℕ, zero, suc}
 use lib.Dec.{leb}
 use lib.ListN.{length}
+use Rattle.std.specs.Prelude.{Ok, Err}
+use Rattle.std.specs.declared.result.Result.{Result as Answer}
+use Rattle.section_bytes.specs.declared.error.Error.{Error}
 use Rattle.section_bytes.specs.Error.{refusal}
 use Rattle.section_bytes.specs.Read.{Result, gives, refused, got, Read}
 use Rattle.section_bytes.specs.Reader.{is_size}
@@ -25,8 +28,6 @@ use Rattle.lists.specs.declared.Walk.{Walk}
 use Rattle.lists.proofs.CountLaws.{pick_both}
 use Rattle.lists.proofs.RisenLaws.{trace_raised, first_raised, read_raised}
 use Rattle.profile.specs.Profile.{of_read, unless, profile_from, profile, profile_next, profile_of, profile_range, profile_range_by, profile_location}
-use Rattle.profile.specs.declared.held.Held.{Held}
-use Rattle.profile.specs.declared.held.Held.TheVariants.{Kept, Broken}
 
 -- the walk that a list hands back first
 abbrev walk_of : {D : Type 0} → Trace D → Walk
@@ -38,10 +39,10 @@ module _ (l : Listing) (padded : ℕ → Bool) (table : DebugAddrIndex → Resul
   emptied_raised : (w : Walk) → raised n (read_to len w) ≡ read_to len (raised n w)
   emptied_raised w = ap walk_of (read_raised l table size len n w (gives (got stop len)) over over (λ _. refl))
 
-  unless_raised : (x : Held) (w : Walk) (r : Read (Raw l.Entry)) (f g : Walk → Trace l.Carried) → ((u : Walk) → trace_raised n (f u) ≡ g (raised n u))
+  unless_raised : (x : Answer Unit Error) (w : Walk) (r : Read (Raw l.Entry)) (f g : Walk → Trace l.Carried) → ((u : Walk) → trace_raised n (f u) ≡ g (raised n u))
       → trace_raised n (unless x (read_to len w) (on_read l table size len w r f)) ≡ unless x (read_to len (raised n w)) (on_read l table size len (raised n w) r g)
-  unless_raised Kept w r f g h = read_raised l table size len n w r f g h
-  unless_raised (Broken x) w r f g h = ap (λ (v : Walk). handed (refusal x) v (over v)) (emptied_raised w)
+  unless_raised (Ok x) w r f g h = read_raised l table size len n w r f g h
+  unless_raised (Err x) w r f g h = ap (λ (v : Walk). handed (refusal x) v (over v)) (emptied_raised w)
 
   held_raised : (w : Walk) (r : Read (Raw l.Entry)) → of_read l padded table size w r ≡ of_read l padded table size (raised n w) r
   held_raised w (gives (got (entry e) c)) = refl
@@ -54,7 +55,7 @@ module _ (l : Listing) (padded : ℕ → Bool) (table : DebugAddrIndex → Resul
   from_raised (suc m) w =
       pick_both (trace_raised n) (leb len w.at) refl
       (unless_raised (of_read l padded table size w (l.read w.at)) w (l.read w.at) (profile_from l padded table size len m) (profile_from l padded table size len m) (from_raised m)
-      ∙ ap (λ (x : Held). unless x (read_to len (raised n w)) (on_read l table size len (raised n w) (l.read w.at) (profile_from l padded table size len m))) (held_raised w (l.read w.at)))
+      ∙ ap (λ (x : Answer Unit Error). unless x (read_to len (raised n w)) (on_read l table size len (raised n w) (l.read w.at) (profile_from l padded table size len m))) (held_raised w (l.read w.at)))
 
   trace_raised_lem : (w : Walk) → trace_raised n (profile l padded table size len w) ≡ profile l padded table size len (raised n w)
   unfolding profile

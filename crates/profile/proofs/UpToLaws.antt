@@ -8,6 +8,8 @@ use native.Mathlib.Omega.{arith}
 use lib.Dec.{leb}
 use lib.ListN.{length}
 use borrow.Author.Tests.{le-leb, lt-leb, leb-false}
+use Rattle.std.specs.Prelude.{Ok, Err}
+use Rattle.std.specs.declared.result.Result.{Result as Answer}
 use Rattle.section_bytes.specs.Error.{refusal}
 use Rattle.section_bytes.specs.Read.{Result, gives, refused, got, Read, pick}
 use Rattle.section_bytes.specs.Reader.{is_size}
@@ -27,16 +29,14 @@ use Rattle.lists.specs.declared.Walk.{Walk}
 use Rattle.lists.proofs.WalkLaws as ordinary
 use Rattle.lists.proofs.WalkLaws.{Moved, trace_over, trace_step}
 use Rattle.lists.proofs.Past.{listed_past}
-use Rattle.profile.specs.Profile.{of_read, unless, profile, profile_next}
+use Rattle.profile.specs.Profile.{kept, of_read, unless, profile, profile_next}
 use Rattle.profile.specs.Profiled.{behind_turn, behind_read, behind_one, behind, turn_then, read_then, one_then, given_then, held_at, held_behind, KeptBefore, FirstBroken, emptied_behind, HandsInProfile, EveryProfile}
-use Rattle.profile.specs.declared.held.Held.{Held}
-use Rattle.profile.specs.declared.held.Held.TheVariants.{Kept, Broken}
 use Rattle.profile.proofs.ProfileLaws.{profile_over, profile_step, profile_ind, next_first}
 
 -- an entry keeps to the profile, or is one of the three
-held_or : (x : Held) → (x ≡ Kept) ⊎ ((y : Error) × (x ≡ Broken y))
-held_or Kept = inl refl
-held_or (Broken y) = inr (y, refl)
+held_or : (x : Answer Unit Error) → (x ≡ kept) ⊎ ((y : Error) × (x ≡ Err y))
+held_or (Ok x) = inl refl
+held_or (Err y) = inr (y, refl)
 
 turn_then_lem : {D : Type 0} (t : Result Turn) (d : D) (w : Walk) (go : Walk → Trace D) → on_turn t d w go ≡ turn_then t d w (go (behind_turn t w))
 turn_then_lem (gives (range b e)) d w go = refl
@@ -116,11 +116,11 @@ module _ (l : Listing) (table : DebugAddrIndex → Result ℕ) (size len : ℕ) 
 
 -- the first of the three
 module _ (l : Listing) (padded : ℕ → Bool) (table : DebugAddrIndex → Result ℕ) (size len : ℕ) where
-  first_here : (w : Walk) (x : Error) → held_at l padded table size len w ≡ Broken x → FirstBroken l padded table size len 0 w x
+  first_here : (w : Walk) (x : Error) → held_at l padded table size len w ≡ Err x → FirstBroken l padded table size len 0 w x
   unfolding behind
   first_here w x q = record { before = λ k p. absurd (omega arith); stands = q }
 
-  first_later : (n : ℕ) (w : Walk) (x : Error) → held_at l padded table size len w ≡ Kept → FirstBroken l padded table size len n (behind_one l table size len w) x
+  first_later : (n : ℕ) (w : Walk) (x : Error) → held_at l padded table size len w ≡ kept → FirstBroken l padded table size len n (behind_one l table size len w) x
       → FirstBroken l padded table size len (suc n) w x
   unfolding behind
   first_later n w x k h = record { before = kept; stands = h.stands }
@@ -129,7 +129,7 @@ module _ (l : Listing) (padded : ℕ → Bool) (table : DebugAddrIndex → Resul
       kept zero p = k
       kept (suc m) p = h.before m (omega arith)
 
-  none_past : (n : ℕ) (w : Walk) (x : Error) → held_behind l padded table size len n w ≡ Broken x
+  none_past : (n : ℕ) (w : Walk) (x : Error) → held_behind l padded table size len n w ≡ Err x
       → (m : ℕ) × (m ≤ n) × ((y : Error) × FirstBroken l padded table size len m w y)
   unfolding behind
   none_past zero w x q = (0, omega arith, (x, first_here w x q))
@@ -142,7 +142,7 @@ module _ (l : Listing) (padded : ℕ → Bool) (table : DebugAddrIndex → Resul
   held_as : (w : Walk) → w.at < len → held_at l padded table size len w ≡ of_read l padded table size w (l.read w.at)
   held_as w h = simp (lt-leb _ _ h)
 
-  held_over : (w : Walk) → len ≤ w.at → held_at l padded table size len w ≡ Kept
+  held_over : (w : Walk) → len ≤ w.at → held_at l padded table size len w ≡ kept
   held_over w h = simp (le-leb _ _ h)
 
 module _ (l : Listing) (padded : ℕ → Bool) (table : DebugAddrIndex → Result ℕ) (size len : ℕ) (past : (at : ℕ) → at < len → Moved at len (l.read at)) where
@@ -153,14 +153,14 @@ module _ (l : Listing) (padded : ℕ → Bool) (table : DebugAddrIndex → Resul
   turn_hands (gives skip) d w h = h w refl
   turn_hands (refused n vs) d w h = refl
 
-  read_hands : (w : Walk) (r : Read (Raw l.Entry)) (x : Held) → Moved w.at len r
+  read_hands : (w : Walk) (r : Read (Raw l.Entry)) (x : Answer Unit Error) → Moved w.at len r
       → ((v : Walk) → w.at < v.at → HandsInProfile l padded table size len (profile l padded table size len v))
       → HandsInProfile l padded table size len (unless x (read_to len w) (on_read l table size len w r (λ v. profile l padded table size len v)))
-  read_hands w r (Broken x) p h = profile_over l padded table size len past (read_to len w) (omega arith)
-  read_hands w (gives (got (entry e) c)) Kept p h =
+  read_hands w r (Err x) p h = profile_over l padded table size len past (read_to len w) (omega arith)
+  read_hands w (gives (got (entry e) c)) kept p h =
       turn_hands (convert table size w.base_address (l.bounds_of e)) (l.carried e) (read_to c w) (λ v q. h v (omega (arith, p.0)))
-  read_hands w (gives (got stop c)) Kept p h = profile_over l padded table size len past (read_to len w) (omega arith)
-  read_hands w (refused n vs) Kept p h = profile_over l padded table size len past (moved_to len w) (omega arith)
+  read_hands w (gives (got stop c)) kept p h = profile_over l padded table size len past (read_to len w) (omega arith)
+  read_hands w (refused n vs) kept p h = profile_over l padded table size len past (moved_to len w) (omega arith)
 
   hands_out : (w : Walk) → HandsInProfile l padded table size len (profile l padded table size len w)
   hands_out w =
@@ -169,20 +169,20 @@ module _ (l : Listing) (padded : ℕ → Bool) (table : DebugAddrIndex → Resul
       (λ v p h. read_hands v (l.read v.at) (of_read l padded table size v (l.read v.at)) (past v.at p) h) w
 
   -- by what stands where the walk does
-  held_step : (w : Walk) (x : Held) → w.at < len → held_at l padded table size len w ≡ x
+  held_step : (w : Walk) (x : Answer Unit Error) → w.at < len → held_at l padded table size len w ≡ x
       → profile l padded table size len w ≡ unless x (read_to len w) (on_read l table size len w (l.read w.at) (λ v. profile l padded table size len v))
   held_step w x h k =
       profile_step l padded table size len past w h
-      ∙ ap (λ (y : Held). unless y (read_to len w) (on_read l table size len w (l.read w.at) (λ v. profile l padded table size len v))) (sym (held_as l padded table size len w h) ∙ k)
+      ∙ ap (λ (y : Answer Unit Error). unless y (read_to len w) (on_read l table size len w (l.read w.at) (λ v. profile l padded table size len v))) (sym (held_as l padded table size len w h) ∙ k)
 
-  broken_at : (w : Walk) (x : Error) → held_at l padded table size len w ≡ Broken x → profile l padded table size len w ≡ handed (refusal x) (read_to len w) (over (read_to len w))
+  broken_at : (w : Walk) (x : Error) → held_at l padded table size len w ≡ Err x → profile l padded table size len w ≡ handed (refusal x) (read_to len w) (over (read_to len w))
   broken_at w x q =
-      ⊎_elim (λ h. held_step w (Broken x) h q)
+      ⊎_elim (λ h. held_step w (Err x) h q)
       (λ h. let k = held_over l padded table size len w h in let z : ◌≡◌ {A = ℕ} 0 1 = cc in absurd (omega arith))
       (lt_or_le w.at len)
 
-  kept_one : (w : Walk) → held_at l padded table size len w ≡ Kept → profile l padded table size len w ≡ one_then l table size len w (profile l padded table size len (behind_one l table size len w))
-  kept_one w k = one_then_lem l table size len w (λ v. profile l padded table size len v) (λ h. held_step w Kept h k)
+  kept_one : (w : Walk) → held_at l padded table size len w ≡ kept → profile l padded table size len w ≡ one_then l table size len w (profile l padded table size len (behind_one l table size len w))
+  kept_one w k = one_then_lem l table size len w (λ v. profile l padded table size len v) (λ h. held_step w kept h k)
 
   trace_one : (w : Walk) → trace l table size len w ≡ one_then l table size len w (trace l table size len (behind_one l table size len w))
   trace_one w = one_then_lem l table size len w (λ v. trace l table size len v) (trace_step l table size len past w)
@@ -192,7 +192,7 @@ module _ (l : Listing) (padded : ℕ → Bool) (table : DebugAddrIndex → Resul
 
   up_to : (n : ℕ) (w : Walk) → KeptBefore l padded table size len n w
       → profile l padded table size len w ≡ given_then l table size len n w (profile l padded table size len (behind l table size len n w))
-  up_to n w = given_then_lem l table size len (λ v. held_at l padded table size len v ≡ Kept) (λ v. profile l padded table size len v) kept_one n w
+  up_to n w = given_then_lem l table size len (λ v. held_at l padded table size len v ≡ kept) (λ v. profile l padded table size len v) kept_one n w
 
   broken : (n : ℕ) (w : Walk) (x : Error) → FirstBroken l padded table size len n w x
       → profile l padded table size len w ≡ given_then l table size len n w (handed (refusal x) (emptied_behind l table size len n w) (over (emptied_behind l table size len n w)))
@@ -205,16 +205,16 @@ module _ (l : Listing) (padded : ℕ → Bool) (table : DebugAddrIndex → Resul
   over_same : (w : Walk) → len ≤ w.at → SameOrFirst w
   over_same w h = inl (profile_over l padded table size len past w h ∙ sym (trace_over l table size len past w h))
 
-  later : (w : Walk) → held_at l padded table size len w ≡ Kept → SameOrFirst (behind_one l table size len w) → SameOrFirst w
+  later : (w : Walk) → held_at l padded table size len w ≡ kept → SameOrFirst (behind_one l table size len w) → SameOrFirst w
   later w k h =
       ⊎_elim (λ e. inl (kept_one w k ∙ ap (one_then l table size len w) e ∙ sym (trace_one w)))
       (λ b. inr (suc b.0, (b.1.0, first_later l padded table size len b.0 w b.1.0 k b.1.1)))
       h
 
-  kept_same : (w : Walk) → w.at < len → held_at l padded table size len w ≡ Kept → ((v : Walk) → w.at < v.at → SameOrFirst v) → SameOrFirst w
+  kept_same : (w : Walk) → w.at < len → held_at l padded table size len w ≡ kept → ((v : Walk) → w.at < v.at → SameOrFirst v) → SameOrFirst w
   kept_same w p k h =
       ⊎_elim (λ d. later w k (rw (behind_as l table size len w p) (h (behind_read l table size w (l.read w.at)) d)))
-      (λ s. inl (held_step w Kept p k ∙ s (λ v. profile l padded table size len v) (λ v. trace l table size len v) ∙ sym (trace_step l table size len past w p)))
+      (λ s. inl (held_step w kept p k ∙ s (λ v. profile l padded table size len v) (λ v. trace l table size len v) ∙ sym (trace_step l table size len past w p)))
       (moves_or l table size len w (l.read w.at) (past w.at p))
 
   from_same : (n : ℕ) (w : Walk) → len ≤ w.at + n → SameOrFirst w
@@ -231,7 +231,7 @@ module _ (l : Listing) (padded : ℕ → Bool) (table : DebugAddrIndex → Resul
   same_or_first : (w : Walk) → SameOrFirst w
   same_or_first w = from_same len w (omega arith)
 
-  same : (w : Walk) → ((n : ℕ) → held_behind l padded table size len n w ≡ Kept) → profile l padded table size len w ≡ trace l table size len w
+  same : (w : Walk) → ((n : ℕ) → held_behind l padded table size len n w ≡ kept) → profile l padded table size len w ≡ trace l table size len w
   same w h =
       ⊎_elim (λ e. e)
       (λ b. let k = h b.0 in let q = b.1.1.stands in let z : ◌≡◌ {A = ℕ} 0 1 = cc in absurd (omega arith))

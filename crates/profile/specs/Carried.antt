@@ -1,5 +1,6 @@
 -- How many raw entries a walk has read that profile calls, too, carry on, whatever the bytes: the statements of docs/SCOPE.md, "Profile".
 -- Their proofs are `counted_in_profile` and, for the two lists, `listed_counted_in_profile` in proofs/CarriedLaws.antt.
+use Rattle.std.specs.Prelude.{Err}
 use Rattle.std.specs.Prelude.{ℕ, ◌^◌, ◌<◌, Bool, List, ◌⊎◌, ◌≡◌, length}
 use Rattle.section_bytes.specs.Read.{Result, gives, got}
 use Rattle.section_bytes.specs.declared.common.DebugAddrIndex.{DebugAddrIndex}
@@ -12,7 +13,6 @@ use Rattle.lists.specs.Walk.{Listing, next, next_raw, convert_raw}
 use Rattle.lists.specs.declared.Walk.{Walk}
 use Rattle.profile.specs.Profile.{profile_next}
 use Rattle.profile.specs.Profiled.{behind, held_at, held_behind, emptied_behind}
-use Rattle.profile.specs.declared.held.Held.TheVariants.{Broken}
 
 -- the walks that come from the opening of a list by calls over its section, as `Reached`, profile calls among them
 pub data CarriedOn (encoding : Encoding) (s : List ℕ) (l : Listing) (padded : ℕ → Bool) (offset : ℕ) : Walk → Type 0 where
@@ -38,7 +38,7 @@ pub record EmptiedAt (encoding : Encoding) (s : List ℕ) (l : Listing) (padded 
   pub reached : Reached encoding s l offset met
   pub table : DebugAddrIndex → Result ℕ
   pub refused : Error
-  pub stands : held_at l padded table encoding.address_size (length s) met ≡ Broken refused
+  pub stands : held_at l padded table encoding.address_size (length s) met ≡ Err refused
   -- the count goes up to and with this entry
   pub counted : CountsWith l offset met.at w.entries
 
@@ -50,5 +50,5 @@ pub record CountedInProfile (encoding : Encoding) (s : List ℕ) (l : Listing) (
       → (Reached encoding s l offset w × (w.entries ≡ entries_before l offset w.at)) ⊎ EmptiedAt encoding s l padded offset w
   -- wherever one of the three stands, the walk that is emptied there has counted it
   pub names : length s < 2 ^ 64 → {v : Walk} → Reached encoding s l offset v → (table : DebugAddrIndex → Result ℕ) (n : ℕ) (x : Error)
-      → held_behind l padded table encoding.address_size (length s) n v ≡ Broken x
+      → held_behind l padded table encoding.address_size (length s) n v ≡ Err x
       → CountsWith l offset (behind l table encoding.address_size (length s) n v).at (emptied_behind l table encoding.address_size (length s) n v).entries

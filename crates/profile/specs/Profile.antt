@@ -30,8 +30,10 @@ use Rattle.lists.specs.Convert.{table_at}
 use Rattle.lists.specs.Open.{moved_to, read_to}
 use Rattle.lists.specs.Walk.{Listing, CarriedIn, listed, Item, Trace, over, handed, on_read, first}
 use Rattle.lists.specs.declared.Walk.{Walk}
-use Rattle.profile.specs.declared.held.Held.{Held}
-use Rattle.profile.specs.declared.held.Held.TheVariants.{Kept, Broken}
+use Rattle.std.specs.Prelude.{Ok, Err}
+use Rattle.std.specs.declared.result.Result.{Result as Answer}
+use Rattle.section_bytes.specs.declared.error.Error.{Error}
+use Rattle.lists.specs.declared.Unit.{Unit as DwarfUnit}
 
 -- what an entry tells when its lookups have succeeded: begin and end; begin and end that were added to a base address; or another base
 -- address
@@ -50,36 +52,40 @@ tells at size base (OffsetPair b e) = gives (added base (add_sized base b size) 
 tells at size base (StartEnd b e) = gives (between b e)
 tells at size base (StartLength b n) = gives (between b (add_sized b n size))
 
+-- an entry that keeps to the profile
+abbrev pub kept : Answer Unit Error
+kept = Ok tt
+
 -- 16, begin at or above the tombstone bound; then 17, begin above end. An empty range that 16 lets by keeps to the profile
-abbrev pub of_range : ℕ → ℕ → ℕ → Held
-of_range size b e = pick (leb (min_tombstone size) b) (Broken Tombstone) (pick (ltb e b) (Broken BackwardRange) Kept)
+abbrev pub of_range : ℕ → ℕ → ℕ → Answer Unit Error
+of_range size b e = pick (leb (min_tombstone size) b) (Err Tombstone) (pick (ltb e b) (Err BackwardRange) kept)
 
 -- of an offset pair 16 for its base address, too; another base address is none of the three, whatever it is
-abbrev pub of_told : ℕ → Tells → Held
+abbrev pub of_told : ℕ → Tells → Answer Unit Error
 of_told size (between b e) = of_range size b e
-of_told size (added base b e) = pick (leb (min_tombstone size) base) (Broken Tombstone) (of_range size b e)
-of_told size (selects a) = Kept
+of_told size (added base b e) = pick (leb (min_tombstone size) base) (Err Tombstone) (of_range size b e)
+of_told size (selects a) = kept
 
 -- when all lookups have succeeded: a failed one is the ordinary walk's
-abbrev pub of_lookups : ℕ → Result Tells → Held
+abbrev pub of_lookups : ℕ → Result Tells → Answer Unit Error
 of_lookups size (gives t) = of_told size t
-of_lookups size (refused n vs) = Kept
+of_lookups size (refused n vs) = kept
 
 -- 15, a padded number, before any lookup
-abbrev pub of_entry : Bool → (DebugAddrIndex → Result ℕ) → ℕ → ℕ → RawRngListEntry → Held
-of_entry padded table size base e = pick padded (Broken PaddedNumber) (of_lookups size (tells table size base e))
+abbrev pub of_entry : Bool → (DebugAddrIndex → Result ℕ) → ℕ → ℕ → RawRngListEntry → Answer Unit Error
+of_entry padded table size base e = pick padded (Err PaddedNumber) (of_lookups size (tells table size base e))
 
 -- of an entry that was read whole; the end mark and what can't be read are the ordinary walk's. Whether a number of an entry is padded is
 -- told by its place
-abbrev pub of_read : (l : Listing) → (ℕ → Bool) → (DebugAddrIndex → Result ℕ) → ℕ → Walk → Read (Raw l.Entry) → Held
+abbrev pub of_read : (l : Listing) → (ℕ → Bool) → (DebugAddrIndex → Result ℕ) → ℕ → Walk → Read (Raw l.Entry) → Answer Unit Error
 of_read l padded table size w (gives (got (entry e) c)) = of_entry (padded w.at) table size w.base_address (l.bounds_of e)
-of_read l padded table size w (gives (got stop c)) = Kept
-of_read l padded table size w (refused n vs) = Kept
+of_read l padded table size w (gives (got stop c)) = kept
+of_read l padded table size w (refused n vs) = kept
 
 -- one of the three is refused, and the list is over; else it does what it does
-abbrev pub unless : {D : Type 0} → Held → Walk → Trace D → Trace D
-unless Kept w t = t
-unless (Broken x) w t = handed (refusal x) w (over w)
+abbrev pub unless : {D : Type 0} → Answer Unit Error → Walk → Trace D → Trace D
+unless (Ok x) w t = t
+unless (Err x) w t = handed (refusal x) w (over w)
 
 -- what a list does in the profile, as `trace_from` and `trace`: each entry as the ordinary walk has it, unless it is one of the three. That
 -- empties the walk; its entry was read
@@ -104,6 +110,9 @@ profile_of l coding encoding endian s table tableBase w =
     profile_next (listed l coding encoding endian s) (padded_in l coding encoding endian s) (table_at endian encoding tableBase table) encoding.address_size (length s) w
 
 -- each list's
+abbrev pub profile_in_unit : (l : Bool) → Coding → List ℕ → DwarfUnit → Walk → Next (Item (CarriedIn l)) Walk
+profile_in_unit l coding s u w = profile_of l coding u.encoding u.endian s u.debug_addr.now u.debug_addr_base w
+
 abbrev pub profile_range : Encoding → RunTimeEndian → List ℕ → List ℕ → DebugAddrBase → Walk → Next (Item Unit) Walk
 profile_range encoding endian s table tableBase w = profile_of false (dwarf false) encoding endian s table tableBase w
 

@@ -15,9 +15,10 @@ use Rattle.lists.specs.Convert.{Turn, range, rebase, skip, bounded, convert}
 use Rattle.lists.specs.Open.{read_to, rebased}
 use Rattle.lists.specs.Walk.{Listing, item, Trace, over, handed, trace, next}
 use Rattle.lists.specs.declared.Walk.{Walk}
-use Rattle.profile.specs.Profile.{Tells, between, added, selects, tells, of_told, of_lookups, of_read, profile, profile_next}
-use Rattle.profile.specs.declared.held.Held.{Held}
-use Rattle.profile.specs.declared.held.Held.TheVariants.{Kept, Broken}
+use Rattle.profile.specs.Profile.{kept, Tells, between, added, selects, tells, of_told, of_lookups, of_read, profile, profile_next}
+use Rattle.std.specs.Prelude.{Err}
+use Rattle.std.specs.declared.result.Result.{Result as Answer}
+use Rattle.section_bytes.specs.declared.error.Error.{Error}
 
 -- The ordinary walk an entry at a time. The walk behind an entry that was read; the end mark and what can't be read have none behind them
 abbrev pub behind_turn : Result Turn → Walk → Walk
@@ -60,21 +61,21 @@ given_then l table size len zero w t = t
 given_then l table size len (suc n) w t = one_then l table size len w (given_then l table size len n (behind_one l table size len w) t)
 
 -- whether one of the three stands where a walk does
-abbrev pub held_at : (l : Listing) → (ℕ → Bool) → (DebugAddrIndex → Result ℕ) → ℕ → ℕ → Walk → Held
-held_at l padded table size len w = pick (leb len w.at) Kept (of_read l padded table size w (l.read w.at))
+abbrev pub held_at : (l : Listing) → (ℕ → Bool) → (DebugAddrIndex → Result ℕ) → ℕ → ℕ → Walk → Answer Unit Error
+held_at l padded table size len w = pick (leb len w.at) kept (of_read l padded table size w (l.read w.at))
 
 -- and behind n entries of the ordinary walk
-abbrev pub held_behind : (l : Listing) → (ℕ → Bool) → (DebugAddrIndex → Result ℕ) → ℕ → ℕ → ℕ → Walk → Held
+abbrev pub held_behind : (l : Listing) → (ℕ → Bool) → (DebugAddrIndex → Result ℕ) → ℕ → ℕ → ℕ → Walk → Answer Unit Error
 held_behind l padded table size len n w = held_at l padded table size len (behind l table size len n w)
 
 -- none of the three stands at the first n entries
 abbrev pub KeptBefore : (l : Listing) → (ℕ → Bool) → (DebugAddrIndex → Result ℕ) → ℕ → ℕ → ℕ → Walk → Type 0
-KeptBefore l padded table size len n w = (k : ℕ) → k < n → held_behind l padded table size len k w ≡ Kept
+KeptBefore l padded table size len n w = (k : ℕ) → k < n → held_behind l padded table size len k w ≡ kept
 
 -- the first of the three, behind n entries
 pub record FirstBroken (l : Listing) (padded : ℕ → Bool) (table : DebugAddrIndex → Result ℕ) (size len n : ℕ) (w : Walk) (x : Error) : Type 0 where
   pub before : KeptBefore l padded table size len n w
-  pub stands : held_behind l padded table size len n w ≡ Broken x
+  pub stands : held_behind l padded table size len n w ≡ Err x
 
 -- a walk that is emptied at an entry, which was read
 abbrev pub emptied_behind : (l : Listing) → (DebugAddrIndex → Result ℕ) → ℕ → ℕ → ℕ → Walk → Walk
@@ -98,9 +99,9 @@ pub record EveryProfile (l : Listing) (padded : ℕ → Bool) (table : DebugAddr
       → profile l padded table size len w
       ≡ given_then l table size len n w (handed (refusal x) (emptied_behind l table size len n w) (over (emptied_behind l table size len n w)))
   -- where none of the three stands the walks are equal
-  pub same : (w : Walk) → ((n : ℕ) → held_behind l padded table size len n w ≡ Kept) → profile l padded table size len w ≡ trace l table size len w
+  pub same : (w : Walk) → ((n : ℕ) → held_behind l padded table size len n w ≡ kept) → profile l padded table size len w ≡ trace l table size len w
   -- none of the three gets past: where one stands there is a first, there or before it
-  pub none_past : (n : ℕ) (w : Walk) (x : Error) → held_behind l padded table size len n w ≡ Broken x
+  pub none_past : (n : ℕ) (w : Walk) (x : Error) → held_behind l padded table size len n w ≡ Err x
       → (m : ℕ) × (m ≤ n) × ((y : Error) × FirstBroken l padded table size len m w y)
   -- and a single call is the ordinary one, or meets the first of the three and refuses it
   pub call : is_size size ≡ true → (w : Walk)
@@ -124,9 +125,9 @@ pub record Breaks : Type 0 where
   pub as_converted : (table : DebugAddrIndex → Result ℕ) (size base : ℕ) (e : RawRngListEntry)
       → convert table size base e ≡ and_then (tells table size base e) (turn_of size)
   -- the ordinary walk passes over an entry at which 16 or 17 stands: neither stands at a range that it hands out
-  pub passed_over : (size : ℕ) (t : Tells) (x : Error) → of_told size t ≡ Broken x → turn_of size t ≡ gives skip
+  pub passed_over : (size : ℕ) (t : Tells) (x : Error) → of_told size t ≡ Err x → turn_of size t ≡ gives skip
   -- and what both pass over is empty
-  pub empty : (size : ℕ) (t : Tells) → turn_of size t ≡ gives skip → of_told size t ≡ Kept → Empty t
+  pub empty : (size : ℕ) (t : Tells) → turn_of size t ≡ gives skip → of_told size t ≡ kept → Empty t
   -- a default location, 0 to 2^64 - 1, is neither
   pub default_location : (table : DebugAddrIndex → Result ℕ) (size base : ℕ) → is_size size ≡ true
-      → of_lookups size (tells table size base (StartEnd 0 (2 ^ 64 - 1))) ≡ Kept
+      → of_lookups size (tells table size base (StartEnd 0 (2 ^ 64 - 1))) ≡ kept

@@ -4,9 +4,8 @@
 // its value stands, 0 where it has none.
 #![tactic(auto)]
 
-use lists::loclists::LocationAnswer;
-use lists::rnglists::RangeAnswer;
-use lists::{Range, Walk};
+use entries::Lists;
+use lists::{LocationListEntry, Range, Unit, Walk};
 use section_bytes::common::{DebugAddrBase, DwarfFileType, Encoding, Format};
 use section_bytes::endianity::RunTimeEndian;
 use section_bytes::error::Error;
@@ -16,216 +15,132 @@ fn say(rt: &impl Print, text: &[u8]) -> io::Result<()> {
     rt.write_all(text)
 }
 
-fn put(rt: &impl Print, name: &[u8], x: u64) -> io::Result<()> {
-    say(rt, name)?;
-    print!(rt; "{x:x}")
-}
-
-fn wide(x: u8) -> u64 {
-    x as u64
-}
-
 fn print_bytes(rt: &impl Print, bytes: &[u8]) -> io::Result<()> {
-    for x in bytes {
-        say(rt, b" ")?;
-        print!(rt; "{:02x}", wide(*x))?;
+    for &x in bytes {
+        print!(rt; " {x:02x}")?;
     }
     Ok(())
 }
 
-fn bounds(rt: &impl Print, x: Range) -> io::Result<()> {
-    put(rt, b" ", x.begin)?;
-    put(rt, b" to ", x.end)
+// A range or a location.
+trait Item: Copy {
+    fn print(self, rt: &impl Print) -> io::Result<()>;
 }
 
-fn stands(rt: &impl Print, walk: Walk) -> io::Result<Walk> {
-    put(rt, b" (", walk.at as u64)?;
-    put(rt, b", ", walk.base_address)?;
-    put(rt, b", ", walk.entries)?;
-    say(rt, b")")?;
-    Ok(walk)
-}
-
-fn ended(rt: &impl Print, walk: Walk) -> io::Result<Walk> {
-    say(rt, b" end")?;
-    stands(rt, walk)
-}
-
-fn refused(rt: &impl Print, e: Error, walk: Walk) -> io::Result<Walk> {
-    say(rt, b" refused ")?;
-    print!(rt; "{}", e.number())?;
-    put(rt, b" ", e.value())?;
-    stands(rt, walk)
-}
-
-fn range(rt: &impl Print, r: RangeAnswer) -> io::Result<Walk> {
-    match r {
-        RangeAnswer::Range(x, after) => {
-            bounds(rt, x)?;
-            stands(rt, after)
-        }
-        RangeAnswer::End(after) => ended(rt, after),
-        RangeAnswer::Refused(e, after) => refused(rt, e, after),
+impl Item for Range {
+    fn print(self, rt: &impl Print) -> io::Result<()> {
+        print!(rt; " {:x} to {:x}", self.begin, self.end)
     }
 }
 
-fn location(rt: &impl Print, r: LocationAnswer) -> io::Result<Walk> {
-    match r {
-        LocationAnswer::Location(x, after) => {
-            bounds(rt, x.range)?;
-            let data = x.data;
-            put(rt, b" by ", data.offset as u64)?;
-            put(rt, b" ", data.len as u64)?;
-            stands(rt, after)
-        }
-        LocationAnswer::End(after) => ended(rt, after),
-        LocationAnswer::Refused(e, after) => refused(rt, e, after),
+impl Item for LocationListEntry {
+    fn print(self, rt: &impl Print) -> io::Result<()> {
+        self.range.print(rt)?;
+        print!(rt; " by {:x} {:x}", self.data.offset, self.data.len)
     }
 }
 
-#[derive(Clone, Copy)]
-enum Holds {
-    Ranges,
-    RangesBy,
-    Locations(DwarfFileType),
+fn answered<I: Item>(
+    rt: &impl Print,
+    (answer, after): (Result<Option<I>, Error>, Walk),
+) -> io::Result<Walk> {
+    match answer {
+        Ok(Some(item)) => item.print(rt)?,
+        Ok(None) => say(rt, b" end")?,
+        Err(e) => print!(rt; " refused {} {:x}", e.number(), e.value())?,
+    }
+    print!(rt;
+        " ({:x}, {:x}, {:x})",
+        after.at, after.base_address, after.entries
+    )?;
+    Ok(after)
 }
 
-// The addresses of the table start at 8; ranges by a table have one of kind numbers, and no addresses.
 fn ordinary(
     rt: &impl Print,
-    holds: Holds,
+    unit: &Unit,
+    lists: &Lists,
     list: &[u8],
-    table: &[u8],
     walk: Walk,
-    p: Encoding,
-    endian: RunTimeEndian,
 ) -> io::Result<Walk> {
-    let b = DebugAddrBase(8);
-    match holds {
-        Holds::Ranges => range(rt, lists::rnglists::next(list, table, b, walk, p, endian)),
-        Holds::RangesBy => range(
-            rt,
-            lists::rnglists::next_by(list, b"", b, walk, p, endian, table),
-        ),
-        Holds::Locations(file_type) => location(
-            rt,
-            lists::loclists::next(list, table, b, walk, p, endian, file_type),
-        ),
+    match *lists {
+        Lists::Ranges(None) => answered(rt, lists::rnglists::next(list, unit, walk)),
+        Lists::Ranges(Some(kinds)) => {
+            answered(rt, lists::rnglists::next_by(list, unit, walk, kinds))
+        }
+        Lists::Locations(file_type) => {
+            answered(rt, lists::loclists::next(list, unit, walk, file_type))
+        }
     }
 }
 
 fn in_profile(
     rt: &impl Print,
-    holds: Holds,
+    unit: &Unit,
+    lists: &Lists,
     list: &[u8],
-    table: &[u8],
     walk: Walk,
-    p: Encoding,
-    endian: RunTimeEndian,
 ) -> io::Result<Walk> {
-    let b = DebugAddrBase(8);
-    match holds {
-        Holds::Ranges => range(rt, profile::next_range(list, table, b, walk, p, endian)),
-        Holds::RangesBy => range(
-            rt,
-            profile::next_range_by(list, b"", b, walk, p, endian, table),
-        ),
-        Holds::Locations(file_type) => location(
-            rt,
-            profile::next_location(list, table, b, walk, p, endian, file_type),
-        ),
+    match *lists {
+        Lists::Ranges(None) => answered(rt, profile::next_range(list, unit, walk)),
+        Lists::Ranges(Some(kinds)) => {
+            answered(rt, profile::next_range_by(list, unit, walk, kinds))
+        }
+        Lists::Locations(file_type) => {
+            answered(rt, profile::next_location(list, unit, walk, file_type))
+        }
     }
 }
 
-fn line(
-    rt: &impl Print,
-    name: &[u8],
-    holds: Holds,
-    p: Encoding,
-    endian: RunTimeEndian,
-    table: &[u8],
-    walk: Walk,
-    list: &[u8],
-) -> io::Result<()> {
-    say(rt, name)?;
-    print_bytes(rt, list)?;
-    say(rt, b";")?;
-    let first = in_profile(rt, holds, list, table, walk, p, endian)?;
-    let second = in_profile(rt, holds, list, table, first, p, endian)?;
-    in_profile(rt, holds, list, table, second, p, endian)?;
-    say(rt, b"; ordinary")?;
-    let first = ordinary(rt, holds, list, table, walk, p, endian)?;
-    let second = ordinary(rt, holds, list, table, first, p, endian)?;
-    ordinary(rt, holds, list, table, second, p, endian)?;
-    say(rt, b"\n")
-}
-
-// Lists one after the other, each behind its length.
 fn each(
     rt: &impl Print,
     name: &[u8],
-    holds: Holds,
-    version: u16,
-    address_size: u8,
-    endian: RunTimeEndian,
-    table: &[u8],
+    unit: &Unit,
+    lists: &Lists,
     base_address: u64,
-    lists: &[u8],
+    sections: &[&[u8]],
 ) -> io::Result<()> {
-    let p = Encoding {
-        address_size,
-        format: Format::Dwarf32,
-        version,
-    };
-    let walk = Walk {
+    let start = Walk {
         at: 0,
         base_address,
         entries: 0,
     };
-    let mut at: usize = 0;
-    while at < lists.len() {
-        let n = wide(lists[at]) as usize;
-        at += 1;
-        if n > lists.len() - at {
-            return Ok(());
+    for &list in sections {
+        say(rt, name)?;
+        print_bytes(rt, list)?;
+        say(rt, b";")?;
+        let mut walk = start;
+        for _ in 0..3 {
+            walk = in_profile(rt, unit, lists, list, walk)?;
         }
-        line(
-            rt,
-            name,
-            holds,
-            p,
-            endian,
-            table,
-            walk,
-            section_bytes::reader::part(lists, at, n),
-        )?;
-        at += n;
+        say(rt, b"; ordinary")?;
+        walk = start;
+        for _ in 0..3 {
+            walk = ordinary(rt, unit, lists, list, walk)?;
+        }
+        say(rt, b"\n")?;
     }
     Ok(())
 }
 
+// The addresses of the table start at 8.
+fn unit(version: u16, address_size: u8, endian: RunTimeEndian, debug_addr: &[u8]) -> Unit<'_> {
+    Unit {
+        encoding: Encoding {
+            address_size,
+            format: Format::Dwarf32,
+            version,
+        },
+        endian,
+        debug_addr,
+        debug_addr_base: DebugAddrBase(8),
+    }
+}
+
 // The table has two addresses, 10 and 20, behind its header.
-fn little(
-    rt: &impl Print,
-    name: &[u8],
-    holds: Holds,
-    version: u16,
-    address_size: u8,
-    base_address: u64,
-    lists: &[u8],
-) -> io::Result<()> {
+fn little(version: u16, address_size: u8) -> Unit<'static> {
     let table = b"\x0c\0\0\0\x05\0\x04\0\x10\0\0\0\x20\0\0\0";
-    each(
-        rt,
-        name,
-        holds,
-        version,
-        address_size,
-        RunTimeEndian::Little,
-        table,
-        base_address,
-        lists,
-    )
+    unit(version, address_size, RunTimeEndian::Little, table)
 }
 
 fn ranges(
@@ -234,16 +149,16 @@ fn ranges(
     version: u16,
     address_size: u8,
     base_address: u64,
-    lists: &[u8],
+    sections: &[&[u8]],
 ) -> io::Result<()> {
-    little(
+    let unit = little(version, address_size);
+    each(
         rt,
         name,
-        Holds::Ranges,
-        version,
-        address_size,
+        &unit,
+        &Lists::Ranges(None),
         base_address,
-        lists,
+        sections,
     )
 }
 
@@ -254,16 +169,16 @@ fn locations(
     version: u16,
     address_size: u8,
     base_address: u64,
-    lists: &[u8],
+    sections: &[&[u8]],
 ) -> io::Result<()> {
-    little(
+    let unit = little(version, address_size);
+    each(
         rt,
         name,
-        Holds::Locations(file_type),
-        version,
-        address_size,
+        &unit,
+        &Lists::Locations(file_type),
         base_address,
-        lists,
+        sections,
     )
 }
 
@@ -277,24 +192,26 @@ fn plain(rt: &impl Print) -> io::Result<()> {
         5,
         4,
         0,
-        b"\x0b\x07\x10\0\0\0\x01\x02\0\x82\0\0\
-        \x02\x04\x80\
-        \x03\x04\x80\0\
-        \x0c\x06\x10\0\x80\0\x90\0\x80\0\0\x80\0\
-        \x09\x05\xfe\xff\xff\xff\x04\0\x01\0\
-        \x0c\x05\xfe\xff\xff\xff\x07\x10\0\0\0\x01\0\
-        \x0c\x05\xfe\xff\xff\xff\x02\0\x01\x03\0\x08\0\
-        \x14\x05\xfe\xff\xff\xff\x06\x10\0\0\0\x20\0\0\0\x05\xff\xff\xff\xff\0\
-        \x0a\x06\xfe\xff\xff\xff\xff\xff\xff\xff\0\
-        \x0a\x06\xfe\xff\xff\xff\xfe\xff\xff\xff\0\
-        \x0a\x06\xfd\xff\xff\xff\xfe\xff\xff\xff\0\
-        \x0a\x06\xff\xff\xff\xff\x10\0\0\0\0\
-        \x0a\x06\x20\0\0\0\x10\0\0\0\0\
-        \x04\x02\x01\0\0\
-        \x0a\x02\x02\0\x07\x10\0\0\0\x01\0\
-        \x0d\x02\0\x02\x06\x20\0\0\0\x10\0\0\0\0\
-        \x08\x03\0\xf8\xff\xff\xff\x0f\0\
-        \x10\x06\x10\0\0\0\x10\0\0\0\x07\x10\0\0\0\x01\0",
+        &[
+            b"\x07\x10\0\0\0\x01\x02\0\x82\0\0",
+            b"\x04\x80",
+            b"\x04\x80\0",
+            b"\x06\x10\0\x80\0\x90\0\x80\0\0\x80\0",
+            b"\x05\xfe\xff\xff\xff\x04\0\x01\0",
+            b"\x05\xfe\xff\xff\xff\x07\x10\0\0\0\x01\0",
+            b"\x05\xfe\xff\xff\xff\x02\0\x01\x03\0\x08\0",
+            b"\x05\xfe\xff\xff\xff\x06\x10\0\0\0\x20\0\0\0\x05\xff\xff\xff\xff\0",
+            b"\x06\xfe\xff\xff\xff\xff\xff\xff\xff\0",
+            b"\x06\xfe\xff\xff\xff\xfe\xff\xff\xff\0",
+            b"\x06\xfd\xff\xff\xff\xfe\xff\xff\xff\0",
+            b"\x06\xff\xff\xff\xff\x10\0\0\0\0",
+            b"\x06\x20\0\0\0\x10\0\0\0\0",
+            b"\x02\x01\0\0",
+            b"\x02\x02\0\x07\x10\0\0\0\x01\0",
+            b"\x02\0\x02\x06\x20\0\0\0\x10\0\0\0\0",
+            b"\x03\0\xf8\xff\xff\xff\x0f\0",
+            b"\x06\x10\0\0\0\x10\0\0\0\x07\x10\0\0\0\x01\0",
+        ],
     )
 }
 
@@ -306,8 +223,10 @@ fn based(rt: &impl Print) -> io::Result<()> {
         5,
         4,
         0x1000,
-        b"\x05\x04\x01\x82\0\0\
-        \x0a\x04\x01\x02\x04\x02\x01\x04\x01\x02\0",
+        &[
+            b"\x04\x01\x82\0\0",
+            b"\x04\x01\x02\x04\x02\x01\x04\x01\x02\0",
+        ],
     )?;
     ranges(
         rt,
@@ -315,9 +234,11 @@ fn based(rt: &impl Print) -> io::Result<()> {
         5,
         4,
         0xffffff00,
-        b"\x06\x04\xfe\x01\xff\x01\0\
-        \x05\x04\x10\x90\x02\0\
-        \x06\x04\x80\x02\x90\x02\0",
+        &[
+            b"\x04\xfe\x01\xff\x01\0",
+            b"\x04\x10\x90\x02\0",
+            b"\x04\x80\x02\x90\x02\0",
+        ],
     )?;
     ranges(
         rt,
@@ -325,7 +246,7 @@ fn based(rt: &impl Print) -> io::Result<()> {
         5,
         4,
         0xfffffffd,
-        b"\x04\x04\0\x01\0",
+        &[b"\x04\0\x01\0"],
     )?;
     ranges(
         rt,
@@ -333,9 +254,11 @@ fn based(rt: &impl Print) -> io::Result<()> {
         5,
         4,
         0xfffffffe,
-        b"\x04\x04\0\x01\0\
-        \x06\x04\x80\x02\x90\x02\0\
-        \x06\x04\x80\0\x81\0\0",
+        &[
+            b"\x04\0\x01\0",
+            b"\x04\x80\x02\x90\x02\0",
+            b"\x04\x80\0\x81\0\0",
+        ],
     )?;
     ranges(
         rt,
@@ -343,7 +266,7 @@ fn based(rt: &impl Print) -> io::Result<()> {
         5,
         4,
         0xffffffff,
-        b"\x06\x04\x90\x02\x80\x02\0",
+        &[b"\x04\x90\x02\x80\x02\0"],
     )
 }
 
@@ -355,11 +278,13 @@ fn sizes(rt: &impl Print) -> io::Result<()> {
         4,
         2,
         0,
-        b"\x08\xfe\xff\xfe\xff\0\0\0\0\
-        \x08\x03\0\x01\0\0\0\0\0\
-        \x0c\xff\xff\xfe\xff\x10\0\x20\0\0\0\0\0\
-        \x08\xff\xff\xfe\xff\0\0\0\0\
-        \x0c\x80\0\x80\0\x80\0\x81\0\0\0\0\0",
+        &[
+            b"\xfe\xff\xfe\xff\0\0\0\0",
+            b"\x03\0\x01\0\0\0\0\0",
+            b"\xff\xff\xfe\xff\x10\0\x20\0\0\0\0\0",
+            b"\xff\xff\xfe\xff\0\0\0\0",
+            b"\x80\0\x80\0\x80\0\x81\0\0\0\0\0",
+        ],
     )?;
     ranges(
         rt,
@@ -367,17 +292,16 @@ fn sizes(rt: &impl Print) -> io::Result<()> {
         4,
         2,
         0xff00,
-        b"\x08\xfe\0\xff\0\0\0\0\0\
-        \x08\x10\0\x10\x01\0\0\0\0",
+        &[b"\xfe\0\xff\0\0\0\0\0", b"\x10\0\x10\x01\0\0\0\0"],
     )?;
-    ranges(rt, b"ranges, size 1:", 5, 1, 0, b"\x04\x07\xf0\x20\0")?;
+    ranges(rt, b"ranges, size 1:", 5, 1, 0, &[b"\x07\xf0\x20\0"])?;
     ranges(
         rt,
         b"ranges, size 1, base 100:",
         5,
         1,
         0x100,
-        b"\x04\x04\0\x01\0",
+        &[b"\x04\0\x01\0"],
     )?;
     ranges(
         rt,
@@ -385,7 +309,7 @@ fn sizes(rt: &impl Print) -> io::Result<()> {
         5,
         3,
         0,
-        b"\x0f\x06\xfd\xff\xff\xfe\xff\xff\x06\xfe\xff\xff\xff\xff\xff\0",
+        &[b"\x06\xfd\xff\xff\xfe\xff\xff\x06\xfe\xff\xff\xff\xff\xff\0"],
     )?;
     ranges(
         rt,
@@ -393,7 +317,7 @@ fn sizes(rt: &impl Print) -> io::Result<()> {
         5,
         8,
         0xfffffffffffffffe,
-        b"\x04\x04\x01\x02\0",
+        &[b"\x04\x01\x02\0"],
     )?;
     ranges(
         rt,
@@ -401,7 +325,7 @@ fn sizes(rt: &impl Print) -> io::Result<()> {
         5,
         5,
         7,
-        b"\x06\x04\x80\0\x80\0\0",
+        &[b"\x04\x80\0\x80\0\0"],
     )
 }
 
@@ -411,53 +335,57 @@ fn tables(rt: &impl Print) -> io::Result<()> {
     each(
         rt,
         b"ranges, no table:",
-        Holds::Ranges,
-        5,
-        4,
-        RunTimeEndian::Little,
-        b"",
+        &unit(5, 4, RunTimeEndian::Little, b""),
+        &Lists::Ranges(None),
         0,
-        b"\x0a\x01\x80\0\x07\x10\0\0\0\x01\0\
-        \x09\x01\0\x07\x10\0\0\0\x01\0",
+        &[
+            b"\x01\x80\0\x07\x10\0\0\0\x01\0",
+            b"\x01\0\x07\x10\0\0\0\x01\0",
+        ],
     )?;
     each(
         rt,
         b"ranges, row at the bound:",
-        Holds::Ranges,
-        5,
-        4,
-        RunTimeEndian::Little,
-        b"\0\0\0\0\0\0\0\0\x10\0\0\0\xfe\xff\xff\xff",
+        &unit(
+            5,
+            4,
+            RunTimeEndian::Little,
+            b"\0\0\0\0\0\0\0\0\x10\0\0\0\xfe\xff\xff\xff",
+        ),
+        &Lists::Ranges(None),
         0,
-        b"\x06\x01\x01\x04\0\x01\0\
-        \x04\x02\x01\0\0\
-        \x07\x02\x01\x02\x04\x01\x02\0\
-        \x04\x02\0\x01\0\
-        \x04\x03\x01\x01\0",
+        &[
+            b"\x01\x01\x04\0\x01\0",
+            b"\x02\x01\0\0",
+            b"\x02\x01\x02\x04\x01\x02\0",
+            b"\x02\0\x01\0",
+            b"\x03\x01\x01\0",
+        ],
     )?;
     each(
         rt,
         b"ranges, size 3, big, row at the bound:",
-        Holds::Ranges,
-        5,
-        3,
-        RunTimeEndian::Big,
-        b"\0\0\0\0\0\0\0\0\0\0\x10\xff\xff\xfe",
+        &unit(
+            5,
+            3,
+            RunTimeEndian::Big,
+            b"\0\0\0\0\0\0\0\0\0\0\x10\xff\xff\xfe",
+        ),
+        &Lists::Ranges(None),
         0,
-        b"\x07\x02\0\x01\x02\x01\0\0",
+        &[b"\x02\0\x01\x02\x01\0\0"],
     )?;
     each(
         rt,
         b"ranges by a table:",
-        Holds::RangesBy,
-        5,
-        4,
-        RunTimeEndian::Little,
-        b"\x07\x06\x05\x04\x03\x02\x01\0",
+        &unit(5, 4, RunTimeEndian::Little, b""),
+        &Lists::Ranges(Some(b"\x07\x06\x05\x04\x03\x02\x01\0")),
         0,
-        b"\x05\x03\x01\x82\0\x07\
-        \x0f\x02\xfe\xff\xff\xff\0\x10\0\0\0\x01\x03\0\x01\x07\
-        \x03\x08\x80\0",
+        &[
+            b"\x03\x01\x82\0\x07",
+            b"\x02\xfe\xff\xff\xff\0\x10\0\0\0\x01\x03\0\x01\x07",
+            b"\x08\x80\0",
+        ],
     )
 }
 
@@ -471,10 +399,12 @@ fn located(rt: &impl Print) -> io::Result<()> {
         5,
         4,
         0,
-        b"\x05\x05\x81\0\x50\0\
-        \x03\x05\x81\0\
-        \x0a\x06\xfe\xff\xff\xff\x04\0\x01\0\0\
-        \x13\x08\x10\0\0\0\x01\0\x07\x20\0\0\0\x10\0\0\0\x01\x50\0",
+        &[
+            b"\x05\x81\0\x50\0",
+            b"\x05\x81\0",
+            b"\x06\xfe\xff\xff\xff\x04\0\x01\0\0",
+            b"\x08\x10\0\0\0\x01\0\x07\x20\0\0\0\x10\0\0\0\x01\x50\0",
+        ],
     )?;
     locations(
         rt,
@@ -483,7 +413,7 @@ fn located(rt: &impl Print) -> io::Result<()> {
         5,
         4,
         0xfffffffe,
-        b"\x04\x05\x01\x50\0",
+        &[b"\x05\x01\x50\0"],
     )?;
     locations(
         rt,
@@ -492,8 +422,10 @@ fn located(rt: &impl Print) -> io::Result<()> {
         4,
         4,
         0,
-        b"\x0a\x03\0\x08\0\0\0\x01\0\x50\0\
-        \x0b\x03\x80\0\x08\0\0\0\x01\0\x50\0",
+        &[
+            b"\x03\0\x08\0\0\0\x01\0\x50\0",
+            b"\x03\x80\0\x08\0\0\0\x01\0\x50\0",
+        ],
     )?;
     locations(
         rt,
@@ -502,7 +434,7 @@ fn located(rt: &impl Print) -> io::Result<()> {
         4,
         2,
         0,
-        b"\x11\x01\0\x02\0\x01\0\x50\x03\0\x01\0\0\0\0\0\0\0",
+        &[b"\x01\0\x02\0\x01\0\x50\x03\0\x01\0\0\0\0\0\0\0"],
     )
 }
 

@@ -4,20 +4,13 @@
 //   what, address size, version, big-endian, 64-bit, four more numbers, old section, new section, table
 //
 // The modules that answer say what the numbers and sections mean.
-ghost use Rattle.std.specs.Prelude.{◌≤◌};
+ghost use Rattle.std.specs.Prelude.{◌<◌, IfSome};
 
 use section_bytes::common::{Encoding, Format};
 use section_bytes::endianity::RunTimeEndian;
 
 // The bytes that a section has at most.
-pub const ROOM: usize = 256;
-
-// What was taken from a line, with the place after it.
-#[derive(Clone, Copy)]
-pub enum Took {
-    Got(u64, usize),
-    Bad,
-}
+const ROOM: usize = 256;
 
 #[derive(Clone, Copy)]
 pub struct Call {
@@ -28,173 +21,133 @@ pub struct Call {
     pub b: u64,
     pub c: u64,
     pub d: u64,
-    pub at: usize,
 }
 
+// A section's bytes, which stand at the front of the room.
 #[derive(Clone, Copy)]
-pub enum Parsed {
-    Call(Call),
-    Bad,
+pub struct Section {
+    room: [u8; ROOM],
+    len: usize,
 }
 
-// The value of a hexadecimal digit; 16 where it is none.
-fn digit(x: u8) -> u64
-    ensures { result ≤ 16 }
+impl Section {
+    pub(crate) fn bytes(&self) -> &[u8] {
+        section_bytes::reader::part(&self.room, 0, self.len)
+    }
+}
+
+// A call, and the sections that it may read.
+#[derive(Clone, Copy)]
+pub struct Line {
+    pub call: Call,
+    pub old: Section,
+    pub new: Section,
+    pub table: Section,
+}
+
+// What stands before the next separator, and what behind it.
+fn field(text: &[u8]) -> Option<(&[u8], &[u8])> {
+    let end = text.iter().position(|&x| x <= b' ')?;
+    Some((&text[..end], &text[end + 1..]))
+}
+
+fn digit(x: u8) -> Option<u8>
+    ensures { IfSome result (λ value. value < 16) }
 {
-    if x < b'0' {
-        return 16;
+    match x {
+        b'0'..=b'9' => Some(x - b'0'),
+        b'a'..=b'f' => Some(x - b'a' + 10),
+        _ => None,
     }
-    if x <= b'9' {
-        return (x - b'0') as u64;
-    }
-    if x < b'a' {
-        return 16;
-    }
-    if x <= b'f' {
-        return (x - 87) as u64;
-    }
-    16
 }
 
-fn number(line: &[u8], start: usize) -> Took {
+// The number that begins a text, and what stands behind it.
+fn number(text: &[u8]) -> Option<(u64, &[u8])> {
+    let (digits, rest) = field(text)?;
+    if digits.is_empty() {
+        return None;
+    }
     let mut value: u64 = 0;
-    for i in start..line.len() {
-        let x = line[i];
-        if x <= b' ' {
-            if i == start {
-                return Took::Bad;
-            }
-            return Took::Got(value, i + 1);
-        }
-        let d = digit(x);
-        if 16 <= d {
-            return Took::Bad;
-        }
-        if 0x0fff_ffff_ffff_ffff < value {
-            return Took::Bad;
-        }
-        value = value * 16 + d;
+    for &x in digits {
+        value = value.checked_mul(16)?.checked_add(u64::from(digit(x)?))?;
     }
-    Took::Bad
+    Some((value, rest))
 }
 
-// The byte of two digits; 256 where they are none.
-fn octet(high: u8, low: u8) -> u64
-    ensures { result ≤ 256 }
-{
-    let h = digit(high);
-    let l = digit(low);
-    if 16 <= h {
-        return 256;
-    }
-    if 16 <= l {
-        return 256;
-    }
-    h * 16 + l
+fn byte(pair: &[u8]) -> Option<u8> {
+    let [high, low] = pair else {
+        return None;
+    };
+    Some(digit(*high)? * 16 + digit(*low)?)
 }
 
-// Puts a section's bytes at the start of out, and answers how many there are.
-pub(crate) fn octets(line: &[u8], start: usize, out: &mut [u8; ROOM]) -> Took {
-    if line.len() <= start {
-        return Took::Bad;
+// The section that begins a text, and what stands behind it.
+fn octets(text: &[u8]) -> Option<(Section, &[u8])> {
+    let (field, rest) = field(text)?;
+    let [b':', digits @ ..] = field else {
+        return None;
+    };
+    let len = digits.len() / 2;
+    if digits.len() % 2 != 0 || ROOM < len {
+        return None;
     }
-    if line[start] != b':' {
-        return Took::Bad;
+    let mut room = [0u8; ROOM];
+    for (place, pair) in room.iter_mut().zip(digits.chunks_exact(2)) {
+        *place = byte(pair)?;
     }
-    let mut n: usize = 0;
-    let mut i = start + 1;
-    while i < line.len() {
-        if line[i] <= b' ' {
-            return Took::Got(n as u64, i + 1);
-        }
-        if line.len() - i < 2 {
-            return Took::Bad;
-        }
-        let x = octet(line[i], line[i + 1]);
-        if 255 < x {
-            return Took::Bad;
-        }
-        if ROOM <= n {
-            return Took::Bad;
-        }
-        out[n] = x as u8;
-        n += 1;
-        i += 2;
-    }
-    Took::Bad
+    Some((Section { room, len }, rest))
 }
 
 fn endian_of(big: u64) -> RunTimeEndian {
     if big == 0 {
-        return RunTimeEndian::Little;
+        RunTimeEndian::Little
+    } else {
+        RunTimeEndian::Big
     }
-    RunTimeEndian::Big
 }
 
 fn format_of(dwarf64: u64) -> Format {
     if dwarf64 == 0 {
-        return Format::Dwarf32;
-    }
-    Format::Dwarf64
-}
-
-fn encoding_of(words: &[u64; 9]) -> Encoding {
-    let format = format_of(words[4]);
-    Encoding {
-        address_size: (words[1] % 256) as u8,
-        format,
-        version: (words[2] % 65536) as u16,
+        Format::Dwarf32
+    } else {
+        Format::Dwarf64
     }
 }
 
-// Whether address size and version fit their types.
-fn fits(words: &[u64; 9]) -> bool {
-    if 255 < words[1] {
-        return false;
+// The call that a line makes; none where the line is no call.
+pub(crate) fn parse(line: &[u8]) -> Option<Line> {
+    let mut numbers = [0u64; 9];
+    let mut rest = line;
+    for place in &mut numbers {
+        let (value, after) = number(rest)?;
+        *place = value;
+        rest = after;
     }
-    words[2] <= 65535
-}
-
-fn call_of(words: &[u64; 9], at: usize) -> Call {
-    let encoding = encoding_of(words);
-    let endian = endian_of(words[3]);
-    Call {
-        what: words[0],
-        encoding,
-        endian,
-        a: words[5],
-        b: words[6],
-        c: words[7],
-        d: words[8],
-        at,
-    }
-}
-
-fn numbers(line: &[u8], words: &mut [u64; 9]) -> Took {
-    let mut at: usize = 0;
-    for i in 0..9 {
-        let Took::Got(value, after) = number(line, at) else {
-            return Took::Bad;
-        };
-        words[i] = value;
-        at = after;
-    }
-    Took::Got(0, at)
-}
-
-// The call that a line begins with; its sections follow.
-pub(crate) fn parse(line: &[u8]) -> Parsed {
-    let mut words = [0u64; 9];
-    let Took::Got(_, at) = numbers(line, &mut words) else {
-        return Parsed::Bad;
+    let [what, size, version, big, dwarf64, a, b, c, d] = numbers;
+    let encoding = Encoding {
+        address_size: u8::try_from(size).ok()?,
+        format: format_of(dwarf64),
+        version: u16::try_from(version).ok()?,
     };
-    if fits(&words) {
-        return Parsed::Call(call_of(&words, at));
+    let call = Call {
+        what,
+        encoding,
+        endian: endian_of(big),
+        a,
+        b,
+        c,
+        d,
+    };
+    let (old, rest) = octets(rest)?;
+    let (new, rest) = octets(rest)?;
+    let (table, rest) = octets(rest)?;
+    if !rest.is_empty() {
+        return None;
     }
-    Parsed::Bad
-}
-
-// The first n bytes.
-pub(crate) fn first(section: &[u8; ROOM], n: u64) -> &[u8] {
-    section_bytes::reader::part(section, 0, n as usize)
+    Some(Line {
+        call,
+        old,
+        new,
+        table,
+    })
 }

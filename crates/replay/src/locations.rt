@@ -1,152 +1,119 @@
 // The calls on location lists, plain and split.
 use super::lines::Call;
-use super::show::{Form, Turn};
+use super::show::{Form, Refused, Turn};
 use super::{ranges, show};
-use entries::{RawLocListEntry, constants};
-use lists::Walk;
-use lists::loclists::{LocationAnswer, LocationConverted, RawLocationAnswer};
-use lookups::LocationFound;
-use section_bytes::common::{DebugAddrBase, DwarfFileType, LocationListsOffset};
+use entries::{Noted, RawLocListEntry};
+use lists::{LocationListEntry, Unit, Walk};
+use section_bytes::common::{DwarfFileType, LocationListsOffset};
+use section_bytes::error::Error;
 use std::io;
 
 // All but a default location are told by their bounds.
-fn form(x: RawLocListEntry) -> Form {
-    match x {
+fn form(entry: RawLocListEntry) -> Form {
+    match entry {
         RawLocListEntry::DefaultLocation(_) => Form {
-            code: constants::DW_LLE_default_location,
+            kind: "DefaultLocation",
             a: 0,
             b: 0,
         },
-        _ => ranges::form(entries::raw::bounds_of(x)),
+        _ => ranges::form(entries::raw::bounds_of(entry)),
     }
 }
 
-fn file_type_of(call: Call) -> DwarfFileType {
-    if 8 <= call.what {
-        return DwarfFileType::Dwo;
+fn location(
+    rt: &impl Print,
+    answer: Result<Option<LocationListEntry>, Error>,
+    none: &str,
+) -> io::Result<()> {
+    match answer {
+        Ok(Some(LocationListEntry { range, data })) => {
+            print!(rt; "location {:x} {:x}", range.begin, range.end)?;
+            show::expression(rt, data)
+        }
+        Ok(None) => print!(rt; "{none}"),
+        Err(e) => print!(rt; "{}", Refused(e)),
     }
-    DwarfFileType::Main
 }
 
-fn next_answer(rt: &impl Print, r: LocationAnswer) -> io::Result<Turn> {
-    match r {
-        LocationAnswer::Location(x, after) => show::location(rt, x, after),
-        LocationAnswer::End(after) => show::ended(rt, after),
-        LocationAnswer::Refused(e, after) => show::refused_at(rt, e, after),
+// Two zeros stand for an expression that an entry lacks.
+fn raw(
+    rt: &impl Print,
+    answer: Result<Option<Noted<RawLocListEntry>>, Error>,
+    walk: Walk,
+) -> io::Result<Turn> {
+    match answer {
+        Ok(Some(noted)) => {
+            show::raw(rt, form(noted.entry))?;
+            show::expression(rt, lists::convert::expression_of(noted.entry))?;
+        }
+        Ok(None) => print!(rt; "end")?,
+        Err(e) => print!(rt; "{}", Refused(e))?,
     }
+    show::stands(rt, walk, matches!(answer, Ok(None)))
 }
 
 pub(crate) fn next(
     rt: &impl Print,
     section: &[u8],
-    table: &[u8],
-    call: Call,
+    unit: &Unit,
     walk: Walk,
+    file_type: DwarfFileType,
 ) -> io::Result<Turn> {
-    let encoding = call.encoding;
-    let endian = call.endian;
-    let base = DebugAddrBase(call.c);
-    let file_type = file_type_of(call);
-    next_answer(
-        rt,
-        lists::loclists::next(section, table, base, walk, encoding, endian, file_type),
-    )
-}
-
-fn converted(rt: &impl Print, r: LocationConverted) -> io::Result<Turn> {
-    match r {
-        LocationConverted::Location(x, after) => show::location(rt, x, after),
-        LocationConverted::Nothing(after) => show::nothing(rt, after),
-        LocationConverted::Refused(e, after) => show::refused_at(rt, e, after),
-    }
-}
-
-fn convert(
-    rt: &impl Print,
-    raw: RawLocListEntry,
-    table: &[u8],
-    call: Call,
-    walk: Walk,
-) -> io::Result<Turn> {
-    let encoding = call.encoding;
-    let endian = call.endian;
-    let base = DebugAddrBase(call.c);
-    converted(
-        rt,
-        lists::loclists::convert_raw(raw, table, base, walk, encoding, endian),
-    )
-}
-
-// Two zeros stand for an expression that an entry lacks.
-fn raw_entry(rt: &impl Print, raw: RawLocListEntry, walk: Walk) -> io::Result<Turn> {
-    show::raw(rt, form(raw))?;
-    show::expression(rt, lists::convert::expression_of(raw))?;
-    show::stands(rt, walk)
-}
-
-fn raw_answer(rt: &impl Print, r: RawLocationAnswer) -> io::Result<Turn> {
-    match r {
-        RawLocationAnswer::Entry(raw, _, after) => raw_entry(rt, raw, after),
-        RawLocationAnswer::End(after) => show::ended(rt, after),
-        RawLocationAnswer::Refused(e, after) => show::refused_at(rt, e, after),
-    }
+    let (answer, after) = lists::loclists::next(section, unit, walk, file_type);
+    location(rt, answer, "end")?;
+    show::stands(rt, after, matches!(answer, Ok(None)))
 }
 
 pub(crate) fn next_raw(
     rt: &impl Print,
     section: &[u8],
-    call: Call,
+    unit: &Unit,
     walk: Walk,
+    file_type: DwarfFileType,
 ) -> io::Result<Turn> {
-    let encoding = call.encoding;
-    let endian = call.endian;
-    let file_type = file_type_of(call);
-    raw_answer(
-        rt,
-        lists::loclists::next_raw(section, walk, encoding, endian, file_type),
-    )
+    let (answer, after) = lists::loclists::next_raw(
+        section,
+        walk,
+        unit.encoding,
+        unit.endian,
+        file_type,
+    );
+    raw(rt, answer, after)
 }
 
 // A raw entry, and what it comes to.
 pub(crate) fn next_converted(
     rt: &impl Print,
     section: &[u8],
-    table: &[u8],
-    call: Call,
+    unit: &Unit,
     walk: Walk,
+    file_type: DwarfFileType,
 ) -> io::Result<Turn> {
-    let encoding = call.encoding;
-    let endian = call.endian;
-    let file_type = file_type_of(call);
-    let r = lists::loclists::next_raw(section, walk, encoding, endian, file_type);
-    let turn = raw_answer(rt, r)?;
-    let RawLocationAnswer::Entry(raw, _, after) = r else {
+    let (answer, after) = lists::loclists::next_raw(
+        section,
+        walk,
+        unit.encoding,
+        unit.endian,
+        file_type,
+    );
+    let turn = raw(rt, answer, after)?;
+    let Ok(Some(noted)) = answer else {
         return Ok(turn);
     };
-    convert(rt, raw, table, call, after)
+    let (converted, then) = lists::loclists::convert_raw(noted.entry, unit, after);
+    location(rt, converted, "nothing")?;
+    show::stands(rt, then, false)
 }
 
-fn found(rt: &impl Print, r: LocationFound) -> io::Result<()> {
-    match r {
-        LocationFound::Found(x) => {
-            show::located(rt, x)?;
-            show::end_line(rt)
-        }
-        LocationFound::NotThere => show::say(rt, b"not there\n"),
-        LocationFound::Refused(e) => show::refusal(rt, e),
-    }
-}
-
-pub(crate) fn look_up(rt: &impl Print, section: &[u8], table: &[u8], call: Call) -> io::Result<()> {
-    let encoding = call.encoding;
-    let endian = call.endian;
-    let base = DebugAddrBase(call.c);
+pub(crate) fn look_up(
+    rt: &impl Print,
+    section: &[u8],
+    unit: &Unit,
+    call: Call,
+    file_type: DwarfFileType,
+) -> io::Result<()> {
     let at = LocationListsOffset(call.a);
-    let file_type = file_type_of(call);
-    found(
-        rt,
-        lookups::lookup_location(
-            section, table, base, at, call.b, encoding, endian, file_type, call.d,
-        ),
-    )
+    let found = lookups::lookup_location(section, unit, at, call.b, file_type, call.d);
+    location(rt, found, "not there")?;
+    println!(rt)
 }

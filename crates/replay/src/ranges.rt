@@ -1,170 +1,83 @@
 // The calls on range lists.
 use super::lines::Call;
 use super::show;
-use super::show::{Form, Turn};
-use entries::{RawRngListEntry, constants};
-use lists::Walk;
-use lists::rnglists::{RangeAnswer, RangeConverted, RawRangeAnswer};
-use lookups::RangeFound;
-use section_bytes::common::{DebugAddrBase, RangeListsOffset};
+use super::show::{Form, Refused, Turn};
+use entries::{Noted, RawRngListEntry};
+use lists::{Range, Unit, Walk};
+use section_bytes::common::RangeListsOffset;
+use section_bytes::error::Error;
 use std::io;
 
-pub(crate) fn form(x: RawRngListEntry) -> Form {
-    match x {
-        RawRngListEntry::AddressOrOffsetPair(a, b) => Form {
-            code: constants::ADDRESS_OR_OFFSET_PAIR,
-            a,
-            b,
-        },
-        RawRngListEntry::BaseAddress(a) => Form {
-            code: constants::DW_LLE_base_address,
-            a,
-            b: 0,
-        },
-        RawRngListEntry::BaseAddressx(a) => Form {
-            code: constants::DW_LLE_base_addressx,
-            a: a.0,
-            b: 0,
-        },
-        RawRngListEntry::StartxEndx(a, b) => Form {
-            code: constants::DW_LLE_startx_endx,
-            a: a.0,
-            b: b.0,
-        },
-        RawRngListEntry::StartxLength(a, b) => Form {
-            code: constants::DW_LLE_startx_length,
-            a: a.0,
-            b,
-        },
-        RawRngListEntry::OffsetPair(a, b) => Form {
-            code: constants::DW_LLE_offset_pair,
-            a,
-            b,
-        },
-        RawRngListEntry::StartEnd(a, b) => Form {
-            code: constants::DW_LLE_start_end,
-            a,
-            b,
-        },
-        RawRngListEntry::StartLength(a, b) => Form {
-            code: constants::DW_LLE_start_length,
-            a,
-            b,
-        },
+pub(crate) fn form(entry: RawRngListEntry) -> Form {
+    let (kind, a, b) = match entry {
+        RawRngListEntry::AddressOrOffsetPair(b, e) => ("AddressOrOffsetPair", b, e),
+        RawRngListEntry::BaseAddress(a) => ("BaseAddress", a, 0),
+        RawRngListEntry::BaseAddressx(i) => ("BaseAddressx", i.0, 0),
+        RawRngListEntry::StartxEndx(i, j) => ("StartxEndx", i.0, j.0),
+        RawRngListEntry::StartxLength(i, n) => ("StartxLength", i.0, n),
+        RawRngListEntry::OffsetPair(b, e) => ("OffsetPair", b, e),
+        RawRngListEntry::StartEnd(b, e) => ("StartEnd", b, e),
+        RawRngListEntry::StartLength(b, n) => ("StartLength", b, n),
+    };
+    Form { kind, a, b }
+}
+
+fn range(rt: &impl Print, answer: Result<Option<Range>, Error>, none: &str) -> io::Result<()> {
+    match answer {
+        Ok(Some(Range { begin, end })) => print!(rt; "range {begin:x} {end:x}"),
+        Ok(None) => print!(rt; "{none}"),
+        Err(e) => print!(rt; "{}", Refused(e)),
     }
 }
 
-fn next_answer(rt: &impl Print, r: RangeAnswer) -> io::Result<Turn> {
-    match r {
-        RangeAnswer::Range(x, after) => show::range(rt, x, after),
-        RangeAnswer::End(after) => show::ended(rt, after),
-        RangeAnswer::Refused(e, after) => show::refused_at(rt, e, after),
-    }
-}
-
-pub(crate) fn next(
+fn raw(
     rt: &impl Print,
-    section: &[u8],
-    table: &[u8],
-    call: Call,
+    answer: Result<Option<Noted<RawRngListEntry>>, Error>,
     walk: Walk,
 ) -> io::Result<Turn> {
-    let encoding = call.encoding;
-    let endian = call.endian;
-    let base = DebugAddrBase(call.c);
-    next_answer(
-        rt,
-        lists::rnglists::next(section, table, base, walk, encoding, endian),
-    )
-}
-
-fn converted(rt: &impl Print, r: RangeConverted) -> io::Result<Turn> {
-    match r {
-        RangeConverted::Range(x, after) => show::range(rt, x, after),
-        RangeConverted::Nothing(after) => show::nothing(rt, after),
-        RangeConverted::Refused(e, after) => show::refused_at(rt, e, after),
+    match answer {
+        Ok(Some(noted)) => show::raw(rt, form(noted.entry))?,
+        Ok(None) => print!(rt; "end")?,
+        Err(e) => print!(rt; "{}", Refused(e))?,
     }
+    show::stands(rt, walk, matches!(answer, Ok(None)))
 }
 
-fn convert(
-    rt: &impl Print,
-    raw: RawRngListEntry,
-    table: &[u8],
-    call: Call,
-    walk: Walk,
-) -> io::Result<Turn> {
-    let encoding = call.encoding;
-    let endian = call.endian;
-    let base = DebugAddrBase(call.c);
-    converted(
-        rt,
-        lists::rnglists::convert_raw(raw, table, base, walk, encoding, endian),
-    )
-}
-
-fn raw_entry(rt: &impl Print, raw: RawRngListEntry, walk: Walk) -> io::Result<Turn> {
-    show::raw(rt, form(raw))?;
-    show::stands(rt, walk)
-}
-
-fn raw_answer(rt: &impl Print, r: RawRangeAnswer) -> io::Result<Turn> {
-    match r {
-        RawRangeAnswer::Entry(raw, _, after) => raw_entry(rt, raw, after),
-        RawRangeAnswer::End(after) => show::ended(rt, after),
-        RawRangeAnswer::Refused(e, after) => show::refused_at(rt, e, after),
-    }
+pub(crate) fn next(rt: &impl Print, section: &[u8], unit: &Unit, walk: Walk) -> io::Result<Turn> {
+    let (answer, after) = lists::rnglists::next(section, unit, walk);
+    range(rt, answer, "end")?;
+    show::stands(rt, after, matches!(answer, Ok(None)))
 }
 
 pub(crate) fn next_raw(
     rt: &impl Print,
     section: &[u8],
-    call: Call,
+    unit: &Unit,
     walk: Walk,
 ) -> io::Result<Turn> {
-    let encoding = call.encoding;
-    let endian = call.endian;
-    raw_answer(
-        rt,
-        lists::rnglists::next_raw(section, walk, encoding, endian),
-    )
+    let (answer, after) = lists::rnglists::next_raw(section, walk, unit.encoding, unit.endian);
+    raw(rt, answer, after)
 }
 
 // A raw entry, and what it comes to.
 pub(crate) fn next_converted(
     rt: &impl Print,
     section: &[u8],
-    table: &[u8],
-    call: Call,
+    unit: &Unit,
     walk: Walk,
 ) -> io::Result<Turn> {
-    let encoding = call.encoding;
-    let endian = call.endian;
-    let r = lists::rnglists::next_raw(section, walk, encoding, endian);
-    let turn = raw_answer(rt, r)?;
-    let RawRangeAnswer::Entry(raw, _, after) = r else {
+    let (answer, after) = lists::rnglists::next_raw(section, walk, unit.encoding, unit.endian);
+    let turn = raw(rt, answer, after)?;
+    let Ok(Some(noted)) = answer else {
         return Ok(turn);
     };
-    convert(rt, raw, table, call, after)
+    let (converted, then) = lists::rnglists::convert_raw(noted.entry, unit, after);
+    range(rt, converted, "nothing")?;
+    show::stands(rt, then, false)
 }
 
-fn found(rt: &impl Print, r: RangeFound) -> io::Result<()> {
-    match r {
-        RangeFound::Found(x) => {
-            show::two(rt, b"range", x.begin, x.end)?;
-            show::end_line(rt)
-        }
-        RangeFound::NotThere => show::say(rt, b"not there\n"),
-        RangeFound::Refused(e) => show::refusal(rt, e),
-    }
-}
-
-pub(crate) fn look_up(rt: &impl Print, section: &[u8], table: &[u8], call: Call) -> io::Result<()> {
-    let encoding = call.encoding;
-    let endian = call.endian;
-    let base = DebugAddrBase(call.c);
-    let at = RangeListsOffset(call.a);
-    found(
-        rt,
-        lookups::lookup_range(section, table, base, at, call.b, encoding, endian, call.d),
-    )
+pub(crate) fn look_up(rt: &impl Print, section: &[u8], unit: &Unit, call: Call) -> io::Result<()> {
+    let found = lookups::lookup_range(section, unit, RangeListsOffset(call.a), call.b, call.d);
+    range(rt, found, "not there")?;
+    println!(rt)
 }

@@ -142,16 +142,3 @@ single_is s at h =
     let p = single_picked (ltb at (length s) && ltb (get_or s at 0) 128) (get_or s at 0) at h in
     let t = (and-eq-true_iff (ltb at (length s)) (ltb (get_or s at 0) 128)).0 p.0 in
     sym (one s at (ltb-true at (length s) t.0) (ltb-true (get_or s at 0) 128 t.1)) ∙ ap₂ (λ x d. gives (got x d)) p.1 p.2
-
-module _ (s : List ℕ) (at : ℕ) where
-  pub single_got : at < length s → get_or s at 0 < 128 → one_byte (get_or s at 0) (at + 1) ≡ single s at
-  unfolding single
-  single_got h l = rw (lt-ltb at (length s) h, lt-ltb (get_or s at 0) 128 l)
-
-  pub single_more : 128 ≤ get_or s at 0 → no_byte ≡ single s at
-  unfolding single
-  single_more h = rw (le-ltb (get_or s at 0) 128 h, and-false (ltb at (length s)))
-
-  pub single_past : length s ≤ at → no_byte ≡ single s at
-  unfolding single
-  single_past h = rw (le-ltb at (length s) h)

@@ -1,16 +1,14 @@
 -- When a LEB128 number has a shorter form: by induction on the bytes that are read. Assumes nothing.
-use Rattle.std.proofs.Common.{◌≡◌, ℕ, zero, suc, ◌+◌, ◌-◌, ◌*◌, ◌/◌, ◌%◌, ◌^◌, ◌<◌, ◌≤◌, Bool, true, false, ◌&&◌, eqb, ltb, ◌⊎◌, List, [], ◌∷◌, length, get_or, drop, sym, refl, ap, ◌∙◌, subst, inl, inr, ⊎_elim, append-nil, arith, get_or-drop, ltb-false, ltb-true, le-ltb, lt-ltb, eq-eqb, ne_eqb}
+use Rattle.std.proofs.Common.{◌≡◌, ℕ, zero, suc, ◌+◌, ◌-◌, ◌*◌, ◌/◌, ◌%◌, ◌^◌, ◌<◌, ◌≤◌, true, false, ◌&&◌, eqb, ltb, ◌⊎◌, List, [], ◌∷◌, length, get_or, drop, sym, refl, ap, ◌∙◌, subst, inl, inr, ⊎_elim, append-nil, arith, get_or-drop, ltb-false, ltb-true, le-ltb, lt-ltb, eq-eqb, ne_eqb}
 use Rattle.section_bytes.specs.Read.{gives, refused, got, Read, read_then}
-use Rattle.section_bytes.specs.Error.{told}
 use Rattle.section_bytes.specs.Leb128.{below, unsigned_from, unsigned}
 use Rattle.section_bytes.specs.Padded.{is_padded, number_from, number_at, value_only, Form, PaddedNumbers}
 use Rattle.section_bytes.specs.Written.{unsigned_in, unsigned_bytes}
-use Rattle.section_bytes.specs.declared.Num.{Num}
-use Rattle.section_bytes.specs.declared.Num.TheVariants as num
 use Rattle.section_bytes.specs.declared.leb128.Number.{Number}
 use Rattle.section_bytes.proofs.Took.{pick_ind}
 use Rattle.section_bytes.proofs.Order.{lt_or_le}
 use Rattle.section_bytes.proofs.LebTook.{unsigned_lt}
+use Rattle.section_bytes.proofs.Inside.{unsigned_inside}
 use Rattle.section_bytes.proofs.WrittenLaws.{unsigned_short, unsigned_long, unsigned_last, unsigned_length, unsigned_there, unsigned_bytes_lem, shortest}
 
 -- by the last byte of what is read as the number's last k + 1 bytes: 0 adds nothing, and stands alone or could be left out; any other
@@ -64,6 +62,10 @@ lasts_from (b ∷ bs) j (suc k) at e =
     (λ x. pick_ind (Lasts (suc k) at (b ∷ bs)) (ltb b 128) (λ y. only_byte (suc k) at b bs (ltb-true b 128 y))
     (λ y. below_lasts k at b bs (unsigned_from (j + 1) bs (at + 1)) (ltb-false b 128 y) (lasts_from bs (j + 1) k (at + 1) (omega arith))))
 
+zero_or_more : (n : ℕ) → (n ≡ 0) ⊎ (0 < n)
+zero_or_more zero = inl refl
+zero_or_more (suc n) = inr (omega arith)
+
 -- a number that was read
 module _ (s : List ℕ) (at : ℕ) {v c : ℕ} (e : unsigned s at ≡ gives (got v c)) where
   by_last : ByLast 9 at v c (get_or s (c - 1) 0)
@@ -81,33 +83,39 @@ module _ (s : List ℕ) (at : ℕ) {v c : ℕ} (e : unsigned s at ≡ gives (got
   unfolding number_at
   number_is = rw e
 
-  -- the code's three ways
   pub one_byte : c - at ≤ 1 → is_padded v (c - at) ≡ false
   unfolding is_padded
   one_byte h = le-ltb (length (unsigned_bytes v)) (c - at) (omega (arith, (unsigned_length 9 v).0))
 
-  pub ends_in_00 : 1 < c - at → get_or s (c - 1) 0 ≡ 0 → is_padded v (c - at) ≡ true
+  ends_in_00 : 1 < c - at → get_or s (c - 1) 0 ≡ 0 → is_padded v (c - at) ≡ true
   unfolding is_padded
   ends_in_00 h z =
       lt-ltb (length (unsigned_bytes v)) (c - at)
       (⊎_elim (λ w. absurd (omega (arith, w.1))) (λ w. omega (arith, w)) (by_last.adds_nothing z))
 
-  pub ends_in_bits : 0 < get_or s (c - 1) 0 → is_padded v (c - at) ≡ false
+  ends_in_bits : 0 < get_or s (c - 1) 0 → is_padded v (c - at) ≡ false
   unfolding is_padded
   ends_in_bits h = le-ltb (length (unsigned_bytes v)) (c - at) (omega (arith, (by_last.has_bits h).1))
 
--- what the code read is what the definition reads
-pub was_read : (s : List ℕ) (at : ℕ) {v c : ℕ} {r : Num} → told r ≡ unsigned s at → r ≡ num.Got v c → unsigned s at ≡ gives (got v c)
-was_read s at h q = sym (rw q at h)
+  -- the code's two ways: one byte, as above, and more
+  pub by_last_bits : 1 < c - at → is_padded v (c - at) ≡ eqb (get_or s (c - 1) 0) 0
+  by_last_bits l =
+      ⊎_elim (λ z. rw (eq-eqb (get_or s (c - 1) 0) 0 z) (ends_in_00 l z)) (λ z. rw (ne_eqb (get_or s (c - 1) 0) 0 (λ y. omega arith)) (ends_in_bits z))
+      (zero_or_more (get_or s (c - 1) 0))
 
--- the number that the code tells
-pub told_as : (s : List ℕ) (at : ℕ) {v c : ℕ} {p : Bool} → unsigned s at ≡ gives (got v c) → is_padded v (c - at) ≡ p
-    → gives (got (record { value = v; len = c - at; padded = p }) c) ≡ number_at s at
-told_as s at e q = rw (← q) (sym (number_is s at e))
+-- what the code goes by
+module _ (s : List ℕ) (at : ℕ) {v c : ℕ} (p : gives (got v c) ≡ unsigned s at) where
+  pub moves : at + 1 ≤ c
+  moves = (number_moves s at (sym p)).0
 
-pub refused_as : (s : List ℕ) (at : ℕ) {n : ℕ} {vs : List ℕ} → refused n vs ≡ unsigned s at → refused n vs ≡ number_at s at
-unfolding number_at
-refused_as s at e = rw (← e)
+  pub ends_inside : c ≤ length s
+  ends_inside = unsigned_inside s at (sym p)
+
+  pub padded_by_last : 1 < c - at → is_padded v (c - at) ≡ eqb (get_or s (c - 1) 0) 0
+  padded_by_last l = by_last_bits s at (sym p) l
+
+  pub single_unpadded : c - at ≤ 1 → is_padded v (c - at) ≡ false
+  single_unpadded l = one_byte s at (sym p) l
 
 value_as : (at : ℕ) (r : Read ℕ) → value_only (read_then r (λ v c. gives (got (number_from at v c) c))) ≡ r
 value_as at (gives (got v c)) = refl
@@ -120,10 +128,6 @@ value_is s at = value_as at (unsigned s at)
 -- a shortest form by itself
 read_alone : {v : ℕ} → v < 2 ^ 64 → unsigned (unsigned_bytes v) 0 ≡ gives (got v (length (unsigned_bytes v)))
 read_alone {v} l = unsigned_there (unsigned_bytes v) 0 v [] l (sym (append-nil (unsigned_bytes v))) ∙ ap (λ (n : ℕ). gives (got v n)) (omega arith)
-
-zero_or_more : (n : ℕ) → (n ≡ 0) ⊎ (0 < n)
-zero_or_more zero = inl refl
-zero_or_more (suc n) = inr (omega arith)
 
 -- a number that was read with its length
 abbrev Numbered : ℕ → Read Number → Read ℕ → Type 0
@@ -167,10 +171,7 @@ module _ (s : List ℕ) (at : ℕ) {x : Number} {c : ℕ} (e : number_at s at �
       f = number_read.0
 
       several : 1 < c - at → is_padded x.value (c - at) ≡ (ltb 1 (c - at) && eqb (get_or s (c - 1) 0) 0)
-      several l =
-          rw (lt-ltb 1 (c - at) l)
-          (⊎_elim (λ z. rw (eq-eqb (get_or s (c - 1) 0) 0 z) (ends_in_00 s at f l z)) (λ z. rw (ne_eqb (get_or s (c - 1) 0) 0 (λ y. omega arith)) (ends_in_bits s at f z))
-          (zero_or_more (get_or s (c - 1) 0)))
+      several l = rw (lt-ltb 1 (c - at) l) (by_last_bits s at f l)
 
 pub padded_numbers : PaddedNumbers
 padded_numbers =

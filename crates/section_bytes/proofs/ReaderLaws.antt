@@ -1,36 +1,45 @@
 -- What the definitions of reading say, case by case. Callers' proofs cite these and do not open the definitions.
-use Rattle.std.proofs.Common.{◌≡◌, ℕ, zero, suc, ◌+◌, ◌-◌, ◌*◌, ◌/◌, ◌%◌, ◌^◌, ◌<◌, ◌≤◌, Bool, true, false, ◌||◌, eqb, ltb, ◌⊎◌, List, [], length, get_or, take, drop, sym, refl, ap, ◌∙◌, inl, inr, ⊎_elim, arith, drop-cons, le-ltb, lt-ltb, eq-eqb, ne_eqb, eqb-true, le-leb}
+use Rattle.std.proofs.Common.{◌≡◌, ℕ, zero, suc, ◌+◌, ◌-◌, ◌*◌, ◌/◌, ◌%◌, ◌^◌, ◌<◌, ◌≤◌, Bool, true, false, ◌||◌, eqb, ltb, ◌⊎◌, List, [], length, get_or, take, drop, sym, refl, ap, ◌∙◌, inl, inr, ⊎_elim, arith, drop-cons, le-ltb, ne_eqb, eqb-true, le-leb}
 use lib.Bits.{bit_and, bit_or, or_add_and, and_le_l}
 use borrow.Author.Tests.{lt-leb}
 use Rattle.section_bytes.proofs.AddressLaws.{under}
+use Rattle.std.specs.Prelude.{Ok, Err, IsErrAnd}
+use Rattle.std.proofs.lemmas.Result.{err_from_is_err_and}
+use Rattle.std.specs.declared.result.Result.{Result as Answer}
 use Rattle.section_bytes.specs.Read.{Result, gives, got, Read, read_then}
-use Rattle.section_bytes.specs.Error.{refusal, told, told_place}
+use Rattle.section_bytes.specs.Error.{refusal, told}
 use Rattle.section_bytes.specs.Endianity.{little, value}
-use Rattle.section_bytes.specs.Reader.{skip, uint, split, truncate, part_of, is_size, address, address_size_at, initial_length, length_of}
-use Rattle.section_bytes.specs.declared.common.Format.TheVariants.{Dwarf32, Dwarf64}
+use Rattle.section_bytes.specs.Reader.{skip, uint, part_of, is_size, address}
 use Rattle.section_bytes.specs.declared.endianity.RunTimeEndian.{RunTimeEndian}
 use Rattle.section_bytes.specs.declared.endianity.RunTimeEndian.TheVariants.{Little}
 use Rattle.section_bytes.specs.declared.error.Error.{Error}
-use Rattle.section_bytes.specs.declared.error.Error.TheVariants.{UnexpectedEof, UnsupportedAddressSize, UnknownReservedLength}
-use Rattle.section_bytes.specs.declared.Num.{Num}
-use Rattle.section_bytes.specs.declared.Num.TheVariants as num
-use Rattle.section_bytes.specs.declared.Place.{Place}
-use Rattle.section_bytes.specs.declared.Place.TheVariants as place
+use Rattle.section_bytes.specs.declared.error.Error.TheVariants.{UnexpectedEof}
 
 -- an answer that was taken apart: its value goes on, or its refusal is the answer
-module _ {B : Type 0} {r : Num} {d : Read ℕ} (f : ℕ → ℕ → Result B) (p : told r ≡ d) where
-  pub got_then : {v c : ℕ} → r ≡ num.Got v c → read_then d f ≡ f v c
+module _ {A B : Type 0} {r : Answer (A × ℕ) Error} {d : Read A} (f : A → ℕ → Result B) (p : told r ≡ d) where
+  pub got_then : {v : A} {c : ℕ} → r ≡ Ok (v, c) → read_then d f ≡ f v c
   got_then q = rw (← p, q)
 
-  pub refused_then : {e : Error} → r ≡ num.Refused e → read_then d f ≡ refusal e
+  pub refused_then : {e : Error} → r ≡ Err e → read_then d f ≡ refusal e
   refused_then q = rw (← p, q)
 
-module _ {B : Type 0} {r : Place} {d : Read Unit} (f : Unit → ℕ → Result B) (p : told_place r ≡ d) where
-  pub at_then : {c : ℕ} → r ≡ place.At c → read_then d f ≡ f tt c
-  at_then q = rw (← p, q)
+-- a `?` on a read: what was read goes on, or the refusal is the answer
+module _ {A B : Type 0} {d : Read A} (f : A → ℕ → Result B) where
+  pub goes_on : {v : A} {c : ℕ} → gives (got v c) ≡ d → read_then d f ≡ f v c
+  goes_on p = rw (← p) refl
 
-  pub no_place_then : {e : Error} → r ≡ place.Refused e → read_then d f ≡ refusal e
-  no_place_then q = rw (← p, q)
+  pub stops : (e : Error) → refusal e ≡ d → read_then d f ≡ refusal e
+  stops e p = rw (← p) refl
+
+-- what a `?` hands on is that refusal, whatever the answer is told as
+pub is_refusal : {A : Type 0} (q : Answer A Error) (e : Error) → IsErrAnd q (λ y. y ≡ e) → q ≡ Err e
+is_refusal q e h = let p = err_from_is_err_and q h in rw (p.1, p.2) refl
+
+pub handed_on : {A : Type 0} (q : Answer (A × ℕ) Error) (e : Error) → IsErrAnd q (λ y. y ≡ e) → told q ≡ refusal e
+handed_on q e h = ap told (is_refusal q e h)
+
+-- for functions whose steps are reads under `?`
+pub ruleset reading = (goes_on, stops, is_refusal)
 
 module _ (n : ℕ) (s : List ℕ) (at : ℕ) where
   pub skip_short : length s < at + n → skip n s at ≡ refusal UnexpectedEof
@@ -49,24 +58,6 @@ module _ (n : ℕ) (s : List ℕ) (at : ℕ) where
   unfolding part_of
   part_outside h = simp (lt-leb _ _ h)
 
--- what is cut off or cut to, by the place after it
-module _ (n : ℕ) (s : List ℕ) (at : ℕ) {r : Place} (p : told_place r ≡ skip n s at) where
-  pub split_got : {c : ℕ} → r ≡ place.At c → split n s at ≡ gives (got (record { offset = at; len = n }) c)
-  unfolding split
-  split_got q = at_then _ p q
-
-  pub no_split : {e : Error} → r ≡ place.Refused e → split n s at ≡ refusal e
-  unfolding split
-  no_split q = no_place_then _ p q
-
-  pub truncate_got : {c : ℕ} → r ≡ place.At c → truncate n s at ≡ gives (got c at)
-  unfolding truncate
-  truncate_got q = at_then _ p q
-
-  pub no_truncate : {e : Error} → r ≡ place.Refused e → truncate n s at ≡ refusal e
-  unfolding truncate
-  no_truncate q = no_place_then _ p q
-
 module _ (endian : RunTimeEndian) (n : ℕ) (s : List ℕ) (at : ℕ) where
   pub uint_short : length s < at + n → uint endian n s at ≡ refusal UnexpectedEof
   unfolding uint
@@ -79,10 +70,6 @@ module _ (endian : RunTimeEndian) (n : ℕ) (s : List ℕ) (at : ℕ) where
   pub address_size : is_size n ≡ true → address endian n s at ≡ uint endian n s at
   unfolding address
   address_size h = simp h
-
-  pub address_other : is_size n ≡ false → address endian n s at ≡ refusal (UnsupportedAddressSize n)
-  unfolding address
-  address_other h = simp h
 
 -- one byte is its own number
 pub byte_got : (s : List ℕ) (at : ℕ) → at < length s → uint Little 1 s at ≡ gives (got (get_or s at 0) (at + 1))
@@ -146,44 +133,3 @@ by_bits (suc n) below l e =
 pub size_8 : is_size 8 ≡ true
 unfolding is_size
 size_8 = refl
-
--- an address size in a header
-module _ (s : List ℕ) (at : ℕ) {r : Num} (p : told r ≡ uint Little 1 s at) where
-  pub no_size : {e : Error} → r ≡ num.Refused e → address_size_at s at ≡ refusal e
-  unfolding address_size_at
-  no_size q = refused_then _ p q
-
-  pub size_read : {n c : ℕ} → r ≡ num.Got n c → is_size n ≡ true → address_size_at s at ≡ gives (got n c)
-  unfolding address_size_at
-  size_read q h = got_then _ p q ∙ simp h
-
-  pub size_refused : {n c : ℕ} → r ≡ num.Got n c → is_size n ≡ false → address_size_at s at ≡ refusal (UnsupportedAddressSize n)
-  unfolding address_size_at
-  size_refused q h = got_then _ p q ∙ simp h
-
--- an initial length
-module _ (endian : RunTimeEndian) (s : List ℕ) (at : ℕ) {r : Num} (p : told r ≡ uint endian 4 s at) where
-  pub no_length : {e : Error} → r ≡ num.Refused e → initial_length endian s at ≡ refusal e
-  unfolding initial_length
-  no_length q = refused_then _ p q
-
-  module _ {n c : ℕ} (q : r ≡ num.Got n c) where
-    pub length_32 : n < 0xfffffff0 → initial_length endian s at ≡ gives (got (length_of n Dwarf32) c)
-    unfolding initial_length
-    length_32 h = got_then _ p q ∙ simp (lt-ltb n 0xfffffff0 h)
-
-    module _ (h : 0xfffffff0 ≤ n) where
-      pub length_reserved : (n ≡ 0xffffffff → ⊥) → initial_length endian s at ≡ refusal (UnknownReservedLength n)
-      unfolding initial_length
-      length_reserved z = got_then _ p q ∙ simp (le-ltb n 0xfffffff0 h, ne_eqb n 0xffffffff z)
-
-      escaped : n ≡ 0xffffffff → initial_length endian s at ≡ read_then (uint endian 8 s c) (λ m d. gives (got (length_of m Dwarf64) d))
-      unfolding initial_length
-      escaped z = got_then _ p q ∙ simp (le-ltb n 0xfffffff0 h, eq-eqb n 0xffffffff z)
-
-      module _ (z : n ≡ 0xffffffff) {t : Num} (u : told t ≡ uint endian 8 s c) where
-        pub length_64 : {m d : ℕ} → t ≡ num.Got m d → initial_length endian s at ≡ gives (got (length_of m Dwarf64) d)
-        length_64 w = escaped z ∙ got_then _ u w
-
-        pub no_length_64 : {e : Error} → t ≡ num.Refused e → initial_length endian s at ≡ refusal e
-        no_length_64 w = escaped z ∙ refused_then _ u w

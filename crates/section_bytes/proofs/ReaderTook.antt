@@ -6,7 +6,7 @@ use Rattle.section_bytes.specs.Endianity.{little, value}
 use Rattle.section_bytes.specs.Reader.{skip, split, uint, is_size, address}
 use Rattle.section_bytes.specs.declared.endianity.RunTimeEndian.{RunTimeEndian}
 use Rattle.section_bytes.specs.declared.endianity.RunTimeEndian.TheVariants.{Little, Big}
-use Rattle.section_bytes.proofs.Values.{length_reverse}
+use Rattle.std.proofs.lemmas.List.{length-reverse}
 use Rattle.section_bytes.proofs.ReaderLaws.{skip_got, skip_short, uint_got, uint_short, size_range}
 use Rattle.section_bytes.proofs.Took.{Stands, within, Took, lower, then_took, pick_took}
 
@@ -80,7 +80,7 @@ little_lt (b ∷ l) p =
 
 value_lt : (endian : RunTimeEndian) (l : List ℕ) → Bytes l → value endian l < 2 ^ (8 * length l)
 value_lt Little l p = little_lt l p
-value_lt Big l p = rw (length_reverse l) at (little_lt (reverse l) (bytes_reverse l p))
+value_lt Big l p = rw (length-reverse l) at (little_lt (reverse l) (bytes_reverse l p))
 
 -- where something was read, it is what the definition says of the bytes there
 module _ (endian : RunTimeEndian) (n : ℕ) (s : List ℕ) (at : ℕ) {v c : ℕ} where

@@ -1,10 +1,10 @@
--- The value of bytes: side by side, the other way round, and its bound.
-use Rattle.std.proofs.Common.{◌≡◌, ℕ, zero, suc, ◌+◌, ◌*◌, ◌/◌, ◌%◌, ◌^◌, ◌<◌, List, [], ◌∷◌, ◌++◌, reverse, length, get_or, take, drop, refl, ap, ◌∙◌, mod-eq_of_lt, mul_assoc, pow-suc, arith, length-append, drop-cons, drop-drop, take-add, pow-add}
-use mathlib.Core.List.{reverse-append, reverse-cons}
-use native.Mathlib.Nat.{zero-mod, zero-div, div-eq_of_lt}
-use lib.Arith.{digits_lt, digits_div, digits_mod}
+-- The value of bytes: of one and of two, side by side, and by the library's sums.
+use Rattle.std.proofs.Common.{◌≡◌, ℕ, zero, suc, ◌+◌, ◌-◌, ◌*◌, ◌^◌, ◌<◌, ◌≤◌, List, [], ◌∷◌, ◌++◌, reverse, length, get_or, take, drop, refl, ap, ◌∙◌, mul_assoc, add-one, pow-suc, arith, length-drop, length-take-le, take_all, drop-cons}
+use Rattle.std.proofs.lemmas.List.{length-reverse, reverse-append}
+use mathlib.Core.List.{reverse-cons}
+use Rattle.std.proofs.Math.Seq.{take-suc}
+use Rattle.std.specs.Int.{Width, byte_len, byte_worth, sum_through, from_le_bytes, from_be_bytes}
 use Rattle.section_bytes.specs.Endianity.{little, value}
-use Rattle.section_bytes.specs.Swap.{swap, Loaded}
 use Rattle.section_bytes.specs.declared.endianity.RunTimeEndian.{RunTimeEndian}
 use Rattle.section_bytes.specs.declared.endianity.RunTimeEndian.TheVariants.{Little, Big}
 
@@ -17,81 +17,73 @@ pub little_two : (a b : ℕ) → little (a ∷ b ∷ []) ≡ a + 256 * b
 unfolding little
 little_two a b = omega arith
 
--- numbers side by side, the first lower
-pub little_append : (xs ys : List ℕ) → little (xs ++ ys) ≡ little ys * 256 ^ length xs + little xs
+-- a byte behind the others is the highest, and the lowest the other way round
+little_behind : (bs : List ℕ) (x : ℕ) → little (bs ++ (x ∷ [])) ≡ little bs + x * 256 ^ length bs
 unfolding little
-little_append [] ys = omega arith
-little_append (x ∷ xs) ys =
-    rw (little_append xs ys, pow-suc) (omega (arith, mul_assoc (little ys) (256 ^ length xs) 256))
+little_behind [] x = omega arith
+little_behind (b ∷ bs) x = rw (little_behind bs x, pow-suc) (omega (arith, mul_assoc x (256 ^ length bs) 256))
 
-pub length_reverse : (l : List ℕ) → length (reverse l) ≡ length l
-length_reverse [] = refl
-length_reverse (x ∷ l) = ap length (reverse-cons x l) ∙ simp (length-append, length_reverse l) (omega arith)
+reversed_behind : (bs : List ℕ) (x : ℕ) → little (reverse (bs ++ (x ∷ []))) ≡ x + 256 * little (reverse bs)
+unfolding little
+reversed_behind bs x = rw (reverse-append bs (x ∷ []))
 
-big_append : (xs ys : List ℕ) → little (reverse (xs ++ ys)) ≡ little (reverse xs) * 256 ^ length ys + little (reverse ys)
-big_append xs ys = rw (reverse-append xs ys, little_append (reverse ys) (reverse xs), length_reverse ys)
+worth : (i b : ℕ) → byte_worth i b ≡ b * 256 ^ i
+worth zero b = omega arith
+worth (suc i) b = refl
 
-pub loaded_one : (b : ℕ) → b < 256 → Loaded 0 (b ∷ []) b
-unfolding little swap
-loaded_one b h = record { size = refl; low = omega arith; top = omega arith; other = omega arith }
+-- the library's sums, up to a byte
+module _ (bs : List ℕ) where
+  low_sum : (n : ℕ) → n < length bs → sum_through (λ i. byte_worth i (get_or bs i 0)) n ≡ little (take (suc n) bs)
+  low_sum zero h = rw (take-suc bs 0 0 h, little_one)
+  low_sum (suc n) h = rw (take-suc bs (suc n) 0 h, little_behind (take (suc n) bs) (get_or bs (suc n) 0), length-take-le (suc n) bs (omega arith), low_sum n (omega arith))
 
--- numbers side by side: the first lower, and in the other order higher
-module _ {j k : ℕ} {xs ys : List ℕ} {lo hi : ℕ} (l : Loaded j xs lo) (h : Loaded k ys hi) where
-  low_join : lo + hi * 256 ^ (2 ^ j) ≡ little (xs ++ ys)
-  low_join = rw (little_append xs ys, l.size, ← h.low, ← l.low) (omega arith)
+  high_sum : (m n : ℕ) → n ≤ m → n < length bs → sum_through (λ i. byte_worth (m - i) (get_or bs i 0)) n ≡ little (reverse (take (suc n) bs)) * 256 ^ (m - n)
+  high_sum m zero l h = rw (take-suc bs 0 0 h, little_one, worth)
+  high_sum m (suc n) l h =
+      let e : m - n ≡ suc (m - suc n) = omega arith in
+      rw (take-suc bs (suc n) 0 h, reversed_behind (take (suc n) bs) (get_or bs (suc n) 0), high_sum m n (omega arith) (omega arith), worth, e, pow-suc)
+      (omega (arith, mul_assoc (little (reverse (take (suc n) bs))) (256 ^ (m - suc n)) 256))
 
-  other_join : swap j lo * 256 ^ (2 ^ k) + swap k hi ≡ little (reverse (xs ++ ys))
-  other_join = rw (big_append xs ys, h.size, l.other, h.other)
+  -- of as many bytes as a type has
+  pub from_low_first : (w : Width) → 0 < byte_len w → length bs ≡ byte_len w → from_le_bytes w bs ≡ little bs
+  from_low_first w z e =
+      let k : suc (byte_len w - 1) ≡ byte_len w = omega arith in
+      low_sum (byte_len w - 1) (omega arith) ∙ rw (k, take_all (byte_len w) bs (omega arith))
 
--- two halves side by side
-pub loaded_join : {k : ℕ} {xs ys : List ℕ} {lo hi : ℕ} → Loaded k xs lo → Loaded k ys hi → Loaded (suc k) (xs ++ ys) (lo + hi * 256 ^ (2 ^ k))
-unfolding swap
-loaded_join {k} {xs} {ys} {lo} {hi} l h =
-    let c : lo + hi * 256 ^ (2 ^ k) ≡ hi * 256 ^ (2 ^ k) + lo = omega arith in
-    let d : 2 ^ suc k ≡ 2 ^ k + 2 ^ k = rw pow-suc (omega arith) in
-    record {
-      size = rw (length-append xs ys, d) (omega arith);
-      low = low_join l h;
-      top = rw (c, d, pow-add 256 (2 ^ k) (2 ^ k)) (digits_lt h.top l.top);
-      other = rw (c, digits_mod hi l.top, digits_div hi l.top) (other_join l h);
-    }
+  pub from_high_first : (w : Width) → 0 < byte_len w → length bs ≡ byte_len w → from_be_bytes w bs ≡ little (reverse bs)
+  from_high_first w z e =
+      let k : suc (byte_len w - 1) ≡ byte_len w = omega arith in
+      let o : byte_len w - 1 - (byte_len w - 1) ≡ 0 = omega arith in
+      high_sum (byte_len w - 1) (byte_len w - 1) (omega arith) (omega arith) ∙ rw (k, o, take_all (byte_len w) bs (omega arith)) (omega arith)
 
--- the bytes at a place
-module _ (s : List ℕ) (at : ℕ) where
-  pub loaded_byte : at < length s → get_or s at 0 < 256 → Loaded 0 (take 1 (drop at s)) (get_or s at 0)
-  loaded_byte h l = rw (drop-cons s at 0 h) (loaded_one (get_or s at 0) l)
+-- what the library makes of the bytes at a place
+there : (w : Width) (s : List ℕ) (at : ℕ) {bs : List ℕ} → bs ≡ take (byte_len w) (drop at s) → at + byte_len w ≤ length s → length bs ≡ byte_len w
+there w s at p h = ap length p ∙ length-take-le (byte_len w) (drop at s) (rw (length-drop at s) (omega arith))
 
-  pub loaded_pair : (n k : ℕ) {lo hi : ℕ} → Loaded k (take n (drop at s)) lo → Loaded k (take n (drop (at + n) s)) hi
-      → Loaded (suc k) (take (n + n) (drop at s)) (lo + hi * 256 ^ (2 ^ k))
-  loaded_pair n k l h = rw (take-add n n (drop at s), drop-drop n at s) (loaded_join l h)
+module _ (w : Width) (s : List ℕ) (at : ℕ) {bs : List ℕ} {v : ℕ} (p : bs ≡ take (byte_len w) (drop at s)) where
+  pub low_there : v ≡ from_le_bytes w bs → 0 < byte_len w → at + byte_len w ≤ length s → v ≡ little (take (byte_len w) (drop at s))
+  low_there q z h = q ∙ from_low_first bs w z (there w s at p h) ∙ ap little p
 
-  -- parts of any two sizes, in either order
-  module _ (m n j k : ℕ) {lo hi : ℕ} (l : Loaded j (take m (drop at s)) lo) (h : Loaded k (take n (drop (at + m) s)) hi) where
-    pub low_parts : lo + hi * 256 ^ (2 ^ j) ≡ little (take (m + n) (drop at s))
-    low_parts = rw (take-add m n (drop at s), drop-drop m at s) (low_join l h)
+  pub high_there : v ≡ from_be_bytes w bs → 0 < byte_len w → at + byte_len w ≤ length s → v ≡ little (reverse (take (byte_len w) (drop at s)))
+  high_there q z h = q ∙ from_high_first bs w z (there w s at p h) ∙ ap (λ (l : List ℕ). little (reverse l)) p
 
-    pub other_parts : swap j lo * 256 ^ (2 ^ k) + swap k hi ≡ little (reverse (take (m + n) (drop at s)))
-    other_parts = rw (take-add m n (drop at s), drop-drop m at s) (other_join l h)
+-- the first of the bytes at a place, and those after it
+module _ (s : List ℕ) (at n : ℕ) (h : at + suc n ≤ length s) where
+  taken : take (suc n) (drop at s) ≡ get_or s at 0 ∷ take n (drop (at + 1) s)
+  taken = rw (add-one at, drop-cons s at 0 (omega arith))
 
--- of one byte in either order
-pub loaded_either : (endian : RunTimeEndian) {bs : List ℕ} {x : ℕ} → Loaded 0 bs x → x ≡ value endian bs
-unfolding swap
-loaded_either Little l = l.low
-loaded_either Big l = l.other
+  pub first_low : get_or s at 0 + 256 * little (take n (drop (at + 1) s)) ≡ little (take (suc n) (drop at s))
+  unfolding little
+  first_low = rw taken
 
--- the other way round, from the halves the other way round
-pub swap_join : (k x : ℕ) {a b : ℕ} → a ≡ swap k (x % 256 ^ (2 ^ k)) → b ≡ swap k (x / 256 ^ (2 ^ k)) → a * 256 ^ (2 ^ k) + b ≡ swap (suc k) x
-unfolding swap
-swap_join k x p q = rw (p, q)
+  pub first_high : get_or s at 0 * 256 ^ n + little (reverse (take n (drop (at + 1) s))) ≡ little (reverse (take (suc n) (drop at s)))
+  first_high =
+      let l : length (take n (drop (at + 1) s)) ≡ n = length-take-le n (drop (at + 1) s) (rw (length-drop (at + 1) s) (omega arith)) in
+      rw (taken, reverse-cons (get_or s at 0) (take n (drop (at + 1) s)), little_behind (reverse (take n (drop (at + 1) s))) (get_or s at 0), length-reverse, l)
+      (omega arith)
 
--- a number of half as many bytes stands on top then
-swap_zero : (k : ℕ) → swap k 0 ≡ 0
-unfolding swap
-swap_zero zero = refl
-swap_zero (suc k) =
-    rw (zero-mod (256 ^ (2 ^ k)), zero-div (256 ^ (2 ^ k)), swap_zero k) (omega arith)
-
-pub swap_top : (k x : ℕ) → x < 256 ^ (2 ^ k) → swap (suc k) x / 256 ^ (2 ^ k) ≡ swap k x
-unfolding swap
-swap_top k x h =
-    rw (mod-eq_of_lt {n = x} h, div-eq_of_lt {n = x} h, swap_zero k) (digits_div (swap k x) (omega arith))
+-- one byte has no other order
+pub one_there : (endian : RunTimeEndian) (s : List ℕ) (at : ℕ) → at < length s → get_or s at 0 ≡ value endian (take 1 (drop at s))
+unfolding little
+one_there Little s at h = rw (drop-cons s at 0 h) (omega arith)
+one_there Big s at h = rw (drop-cons s at 0 h) (omega arith)

@@ -1,5 +1,6 @@
 -- The table of refusals (docs/SCOPE.md, "Refusals"): the number and the values of each. Nothing else knows a number.
-use Rattle.std.specs.Prelude.{ℕ, List, [], ◌∷◌}
+use Rattle.std.specs.Prelude.{ℕ, List, [], ◌∷◌, Ok, Err}
+use Rattle.std.specs.declared.result.Result.{Result as Answer}
 use Rattle.section_bytes.specs.Read.{Result, gives, refused, got, Read}
 use Rattle.section_bytes.specs.declared.error.Error.{Error}
 use Rattle.section_bytes.specs.declared.error.Error.TheVariants.{
@@ -25,16 +26,6 @@ use Rattle.section_bytes.specs.declared.error.Error.TheVariants.{
   TooManyAddresses,
   DescendingAddresses,
 }
-use Rattle.section_bytes.specs.declared.Num.{Num}
-use Rattle.section_bytes.specs.declared.Num.TheVariants as num
-use Rattle.section_bytes.specs.declared.Place.{Place}
-use Rattle.section_bytes.specs.declared.Place.TheVariants as place
-use Rattle.section_bytes.specs.declared.Span.{Span}
-use Rattle.section_bytes.specs.declared.Split.{Split}
-use Rattle.section_bytes.specs.declared.Split.TheVariants as split
-use Rattle.section_bytes.specs.declared.UnitLength.{UnitLength}
-use Rattle.section_bytes.specs.declared.InitialLength.{InitialLength}
-use Rattle.section_bytes.specs.declared.InitialLength.TheVariants as initial
 
 abbrev pub number : Error → ℕ
 number UnexpectedEof = 1
@@ -85,19 +76,16 @@ values DescendingAddresses = []
 abbrev pub refusal : {A : Type 0} → Error → Result A
 refusal e = refused (number e) (values e)
 
--- this crate's answers told as the definitions'
-abbrev pub told : Num → Read ℕ
-told (num.Got v c) = gives (got v c)
-told (num.Refused e) = refusal e
+-- an answer of the code told as the definitions': of a call that gives a value alone; of one that gives the place after it, too;
+-- and of one that gives a place alone
+abbrev pub told_value : {A : Type 0} → Answer A Error → Result A
+told_value (Ok a) = gives a
+told_value (Err e) = refusal e
 
-abbrev pub told_place : Place → Read Unit
-told_place (place.At c) = gives (got tt c)
-told_place (place.Refused e) = refusal e
+abbrev pub told : {A : Type 0} → Answer (A × ℕ) Error → Read A
+told (Ok p) = gives (got p.0 p.1)
+told (Err e) = refusal e
 
-abbrev pub told_split : Split → Read Span
-told_split (split.Got x c) = gives (got x c)
-told_split (split.Refused e) = refusal e
-
-abbrev pub told_length : InitialLength → Read UnitLength
-told_length (initial.Got u c) = gives (got u c)
-told_length (initial.Refused e) = refusal e
+abbrev pub told_place : Answer ℕ Error → Read Unit
+told_place (Ok c) = gives (got tt c)
+told_place (Err e) = refusal e

@@ -1,10 +1,9 @@
 -- Unsigned LEB128 (DWARF 5, 7.6). The standard sets no limit; gimli's is taken over: ten bytes, the tenth 00 or 01.
-use Rattle.std.specs.Prelude.{ℕ, ◌+◌, ◌*◌, ◌%◌, ◌&&◌, List, [], ◌∷◌, length, drop, ◌==◌, nat_lt, slice_index}
+use Rattle.std.specs.Prelude.{ℕ, ◌+◌, ◌*◌, ◌%◌, ◌&&◌, List, [], ◌∷◌, length, drop, ◌==◌, nat_lt, slice_index, Some, None}
 use Rattle.section_bytes.specs.Read.{gives, got, Read, read_then, pick}
 use Rattle.section_bytes.specs.Error.{refusal}
 use Rattle.section_bytes.specs.declared.error.Error.TheVariants.{UnexpectedEof, BadUnsignedLeb128}
-use Rattle.section_bytes.specs.declared.leb128.OneByte.{OneByte as Code}
-use Rattle.section_bytes.specs.declared.leb128.OneByte.TheVariants as code
+use Rattle.std.specs.declared.option.Option.{Option}
 
 -- the low seven bits of a byte, below a number that was read after it
 abbrev pub below : ℕ → Read ℕ → Read ℕ
@@ -28,6 +27,6 @@ pub data Short : Type 0 where
 unfoldable pub single : List ℕ → ℕ → Short
 single s at = pick (nat_lt at (length s) && nat_lt (slice_index s at) 128) (one_byte (slice_index s at) (at + 1)) no_byte
 
-abbrev pub told_single : Code → Short
-told_single (code.Got v c) = one_byte v c
-told_single code.None = no_byte
+abbrev pub told_single : Option (ℕ × ℕ) → Short
+told_single (Some p) = one_byte p.0 p.1
+told_single None = no_byte

@@ -2,12 +2,9 @@
 -- allows longer forms). What that comes to is stated below; its proof is `padded_numbers` in proofs/PaddedLaws.antt.
 use Rattle.std.specs.Prelude.{◌≡◌, ℕ, ◌+◌, ◌-◌, ◌<◌, ◌≤◌, Bool, true, ◌&&◌, List, length, ◌==◌, nat_lt, slice_index}
 use Rattle.section_bytes.specs.Read.{gives, got, Read, read_then}
-use Rattle.section_bytes.specs.Error.{refusal}
 use Rattle.section_bytes.specs.Leb128.{unsigned}
 use Rattle.section_bytes.specs.Written.{unsigned_bytes}
 use Rattle.section_bytes.specs.declared.leb128.Number.{Number}
-use Rattle.section_bytes.specs.declared.leb128.NumberAnswer.{NumberAnswer}
-use Rattle.section_bytes.specs.declared.leb128.NumberAnswer.TheVariants as answer
 
 -- whether a number that took so many bytes has a shorter form
 unfoldable pub is_padded : ℕ → ℕ → Bool
@@ -20,10 +17,6 @@ number_from at v c = record { value = v; len = c - at; padded = is_padded v (c -
 -- the number at a place, with its length; refused as its value is
 unfoldable pub number_at : List ℕ → ℕ → Read Number
 number_at s at = read_then (unsigned s at) (λ v c. gives (got (number_from at v c) c))
-
-abbrev pub told_number : NumberAnswer → Read Number
-told_number (answer.Got x c) = gives (got x c)
-told_number (answer.Refused e) = refusal e
 
 -- its value and the place after it, and nothing else
 abbrev pub value_only : Read Number → Read ℕ

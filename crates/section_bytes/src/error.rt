@@ -62,27 +62,13 @@ impl Error {
         ensures { result ≡ slice_index (values_of self) 0 }
     {
         match self {
-            Error::UnexpectedEof => 0,
-            Error::BadUnsignedLeb128 => 0,
             Error::UnknownRangeListsEntry(code) => code,
             Error::UnknownLocListsEntry(code) => code,
             Error::UnknownVersion(version) => version,
             Error::UnsupportedAddressSize(size) => size,
             Error::UnsupportedSegmentSize(size) => size,
             Error::UnknownReservedLength(length) => length,
-            Error::UnsupportedOffset => 0,
-            Error::TooManyRanges => 0,
-            Error::NoSpace => 0,
-            Error::BadSheet => 0,
-            Error::NoSuchMark => 0,
-            Error::BadSpan => 0,
-            Error::PaddedNumber => 0,
-            Error::Tombstone => 0,
-            Error::BackwardRange => 0,
-            Error::AddressTooLarge => 0,
-            Error::BadKindTable => 0,
-            Error::TooManyAddresses => 0,
-            Error::DescendingAddresses => 0,
+            _ => 0,
         }
     }
 }

@@ -12,19 +12,8 @@ pub mod reader;
 use common::Format;
 use error::Error;
 
-// A number that was read, with the place after it.
-#[derive(Clone, Copy)]
-pub enum Num {
-    Got(u64, usize),
-    Refused(Error),
-}
-
-// A place that was reached.
-#[derive(Clone, Copy)]
-pub enum Place {
-    At(usize),
-    Refused(Error),
-}
+// What is read at a place, with the place after it.
+pub type Read<T> = Result<(T, usize), Error>;
 
 // A part of a section: where it starts, and how many bytes it has.
 #[derive(Clone, Copy)]
@@ -33,23 +22,9 @@ pub struct Span {
     pub len: usize,
 }
 
-// A part that was cut off the bytes from a place on, with the place after it.
-#[derive(Clone, Copy)]
-pub enum Split {
-    Got(Span, usize),
-    Refused(Error),
-}
-
 // A unit's length and the format that its form tells.
 #[derive(Clone, Copy)]
 pub struct UnitLength {
     pub length: u64,
     pub format: Format,
-}
-
-// An initial length that was read, with the place after it.
-#[derive(Clone, Copy)]
-pub enum InitialLength {
-    Got(UnitLength, usize),
-    Refused(Error),
 }

@@ -16,18 +16,24 @@ fn run(rt: &(impl Files + Print), name: &str) -> io::Result<()> {
 }
 
 fn main(rt: HostRuntime) -> io::Result<()> {
-    run(&rt, "empty")?;
-    // The example of refusal 12 in docs/SCOPE.md.
-    run(&rt, "count_alone")?;
-    run(&rt, "no_ranges")?;
-    run(&rt, "cut")?;
-    run(&rt, "trailing")?;
-    // A sheet of 1,024 ranges, once the limit, and one of 1,025, which was refused then.
-    run(&rt, "stored")?;
-    run(&rt, "stored_and_one")?;
-    run(&rt, "full")?;
-    // One lawful range more than the limit, in as many bytes as they take: the count alone is refused.
-    run(&rt, "over")?;
-    // A full sheet, and more bytes behind it than the program has room for.
-    run(&rt, "long")
+    let names = [
+        "empty",
+        // The example of refusal 12 in docs/SCOPE.md.
+        "count_alone",
+        "no_ranges",
+        "cut",
+        "trailing",
+        // A sheet of 1,024 ranges, once the limit, and one of 1,025, which was refused then.
+        "stored",
+        "stored_and_one",
+        "full",
+        // One lawful range more than the limit, in as many bytes as they take: the count alone is refused.
+        "over",
+        // A full sheet, and more bytes behind it than the program has room for.
+        "long",
+    ];
+    for name in names {
+        run(&rt, name)?;
+    }
+    Ok(())
 }

@@ -1,6 +1,7 @@
 -- The answers of the two calls over sheets, case by case. Assumes nothing.
 use mathlib.Core.Path.{◌≡◌, sym, ap, ap₂, ◌∙◌}
-use mathlib.Core.Bool.{true, false, ◌&&◌, and-false}
+use mathlib.Core.Bool.{Bool, true, false, ◌&&◌, and-false}
+use mathlib.Core.Logic.{⊎_elim}
 use mathlib.Core.List.{List}
 use Prim.Native.Nat.{ℕ, ◌+◌, ◌*◌, ◌≤◌, ◌<◌}
 use native.Mathlib.Omega.{arith}
@@ -10,6 +11,7 @@ use lib.Seq.{sets}
 use borrow.Author.Tests.{le-leb, lt-leb, eq-eqb, ne_eqb}
 use Rattle.section_bytes.specs.Read.{Result, gives}
 use Rattle.section_bytes.specs.Error.{number, values, refusal}
+use Rattle.section_bytes.specs.declared.error.Error.{Error}
 use Rattle.section_bytes.specs.declared.error.Error.TheVariants.{NoSpace, BadSheet}
 use Rattle.coverage.specs.Ranges.{Range, limit}
 use Rattle.coverage.specs.Kept.{paired, firsts, padded, lawful_from, is_lawful}
@@ -18,27 +20,40 @@ use Rattle.sheets.specs.Sheet.{sheet_bytes, sheet_kept, addresses_in, count_in, 
 use Rattle.coverage.specs.Output.{output, written}
 use Rattle.coverage.specs.Told.{placed, placing}
 use Rattle.coverage.specs.declared.Coverage.{Coverage}
+use Rattle.coverage.proofs.Checked.{lawful_few}
 use Rattle.coverage.proofs.KeptLaws.{ranges_are, kept_paired}
 use Rattle.coverage.proofs.OutputLaws.{written_refused, written_short, all_written}
 use Rattle.sheets.proofs.SheetLaws.{sheet_kept_lem, no_sheet_kept, length_in, ranges_in_lem}
+use Rattle.sheets.specs.Judged.{Refuses}
 use Rattle.sheets.proofs.Putting.{sheet_length_lem}
 
 -- what the sheet call writes is the sheet of the coverage handed in, or it is refused
 module _ (c : Coverage) (l : List ℕ) where
-  pub sheet_refused : is_lawful c ≡ false → output (refusal BadSheet) l ≡ written (sheet_kept c) l
+  sheet_refused : is_lawful c ≡ false → output (refusal BadSheet) l ≡ written (sheet_kept c) l
   sheet_refused e = rw (no_sheet_kept c e) (sym (written_refused (number BadSheet) (values BadSheet) l))
 
-  module _ (law : is_lawful c ≡ true) (all : AtLeast c.n c.begins c.ends) where
-    pub sheet_short : length l < sheet_length c.n → output (refusal NoSpace) l ≡ written (sheet_kept c) l
-    sheet_short h =
-        let e = sheet_length_lem c.begins c.ends c.n all in
-        rw (sheet_kept_lem c law, ranges_are c) (sym (written_short (sheet_bytes (firsts c.n c.begins c.ends)) l (omega arith)))
+  -- a lawful coverage counts no more than there are places
+  module _ (long : (length c.begins ≡ limit) × (length c.ends ≡ limit)) where
+    module _ (law : is_lawful c ≡ true) where
+      pub sheet_all : AtLeast c.n c.begins c.ends
+      sheet_all = let h = lawful_few c law in (omega arith, omega arith)
 
-    pub sheet_written : {m : List ℕ} → sheet_length c.n ≤ length l → m ≡ sets l 0 (sheet_bytes (firsts c.n c.begins c.ends))
-        → output (gives (sheet_length c.n)) m ≡ written (sheet_kept c) l
-    sheet_written h q =
-        let e = sheet_length_lem c.begins c.ends c.n all in
-        rw (sheet_kept_lem c law, ranges_are c) (all_written (sheet_bytes (firsts c.n c.begins c.ends)) l (sym e) h q)
+      sheet_short : length l < sheet_length c.n → output (refusal NoSpace) l ≡ written (sheet_kept c) l
+      sheet_short h =
+          let e = sheet_length_lem c.begins c.ends c.n sheet_all in
+          rw (sheet_kept_lem c law, ranges_are c) (sym (written_short (sheet_bytes (firsts c.n c.begins c.ends)) l (omega arith)))
+
+      pub sheet_written : {m : List ℕ} → sheet_length c.n ≤ length l → m ≡ sets l 0 (sheet_bytes (firsts c.n c.begins c.ends))
+          → output (gives (sheet_length c.n)) m ≡ written (sheet_kept c) l
+      sheet_written h q =
+          let e = sheet_length_lem c.begins c.ends c.n sheet_all in
+          rw (sheet_kept_lem c law, ranges_are c) (all_written (sheet_bytes (firsts c.n c.begins c.ends)) l (sym e) h q)
+
+    pub sheet_lost : {b : Bool} (e : Error) → b ≡ is_lawful c → Refuses b c.n (length l) e → output (refusal e) l ≡ written (sheet_kept c) l
+    sheet_lost e q =
+        ⊎_elim
+        (λ p. rw p.0 (sheet_refused (sym q ∙ p.1)))
+        (λ p. rw p.0 (sheet_short (sym q ∙ p.1) p.2))
 
 -- what is no sheet is refused
 module _ (s : List ℕ) where

@@ -9,13 +9,12 @@ ghost use Rattle.coverage.specs.Kept.{counted, firsts, padded, lawful_from};
 ghost use Rattle.coverage.specs.Sorted.{AtLeast};
 ghost use Rattle.sheets.specs.Sheet.{address_bytes, sheet_bytes, sheet_length, sheet_kept, addresses_in, ranges_in, sheet_ranges};
 ghost use Rattle.coverage.specs.Output.{output, written};
-ghost use Rattle.coverage.specs.Told.{told_wrote, told_made, told_count, made, placed, placing};
+ghost use Rattle.coverage.specs.Told.{told_made, made, placed, placing};
+ghost use Rattle.section_bytes.specs.Error.{told_value};
 ghost use Rattle.sheets.specs.Judged.{Judged};
 
-use coverage::collect::{Collected, by_count};
 use coverage::lawful::is_lawful;
-use coverage::{Coverage, LIMIT, Made, Wrote};
-use section_bytes::Num;
+use coverage::{Coverage, LIMIT};
 use section_bytes::endianity::RunTimeEndian;
 use section_bytes::error::Error;
 use section_bytes::put::put_u64;
@@ -25,14 +24,6 @@ use section_bytes::reader::{read_u16, read_u64};
 pub const HEAD: usize = 4;
 
 pub const RANGE: usize = 16;
-
-// Whether a coverage makes a lawful sheet, and an output is long enough for it.
-#[derive(Clone, Copy)]
-enum Judgement {
-    BadSheet,
-    NoSpace,
-    Fits,
-}
 
 // The first n addresses, eight bytes each, from a place on.
 fn put_addresses(out: &mut [u8], at: usize, n: usize, addresses: &[u64])
@@ -62,42 +53,41 @@ fn write(n: usize, begins: &[u64], ends: &[u64], out: &mut [u8])
 }
 
 // Whether a coverage of n ranges makes a lawful sheet (else 12), and there is room for it (else 11).
-fn judge(lawful: bool, n: usize, room: usize) -> Judgement
+fn judge(lawful: bool, n: usize, room: usize) -> Result<(), Error>
     ensures { Judged lawful n room result }
 {
-    if lawful {
-        if room < HEAD {
-            return Judgement::NoSpace;
-        }
-        if (room - HEAD) / RANGE < n {
-            return Judgement::NoSpace;
-        }
-        return Judgement::Fits;
+    if !lawful {
+        return Err(Error::BadSheet);
     }
-    Judgement::BadSheet
+    if room < HEAD {
+        return Err(Error::NoSpace);
+    }
+    if (room - HEAD) / RANGE < n {
+        return Err(Error::NoSpace);
+    }
+    Ok(())
 }
 
 // The sheet of a coverage in two arrays, and how many bytes it has: 12 where it makes no lawful sheet, then 11.
-pub fn sheet_of(n: usize, begins: &[u64; LIMIT], ends: &[u64; LIMIT], out: &mut [u8]) -> Wrote
-    ensures { output (told_wrote result) out.new ≡ written (sheet_kept (counted n begins.now ends.now)) out.old }
+pub fn sheet_of(
+    n: usize,
+    begins: &[u64; LIMIT],
+    ends: &[u64; LIMIT],
+    out: &mut [u8],
+) -> Result<usize, Error>
+    ensures { output (told_value result) out.new ≡ written (sheet_kept (counted n begins.now ends.now)) out.old }
 {
     // A slice made of an array is known to be as long as the array.
     let bs: &[u64] = begins;
     let es: &[u64] = ends;
-    match judge(is_lawful(n, begins, ends), n, out.len()) {
-        Judgement::BadSheet => Wrote::Refused(Error::BadSheet),
-        Judgement::NoSpace => Wrote::Refused(Error::NoSpace),
-        Judgement::Fits => {
-            let len = HEAD + RANGE * n;
-            write(n, bs, es, out);
-            Wrote::Bytes(len)
-        }
-    }
+    judge(is_lawful(n, begins, ends), n, out.len())?;
+    write(n, bs, es, out);
+    Ok(HEAD + RANGE * n)
 }
 
 // The same of a coverage by value.
-pub fn sheet(coverage: Coverage, out: &mut [u8]) -> Wrote
-    ensures { output (told_wrote result) out.new ≡ written (sheet_kept coverage) out.old }
+pub fn sheet(coverage: Coverage, out: &mut [u8]) -> Result<usize, Error>
+    ensures { output (told_value result) out.new ≡ written (sheet_kept coverage) out.old }
 {
     let begins = coverage.begins;
     let ends = coverage.ends;
@@ -105,22 +95,24 @@ pub fn sheet(coverage: Coverage, out: &mut [u8]) -> Wrote
 }
 
 // The number of two bytes at a place.
+#[tactic(auto, using(section_bytes::proofs::ReaderLaws::uint_got))]
 fn half_word(bytes: &[u8], at: usize) -> u64
     requires { at + 2 ≤ length bytes.now }
     ensures { result ≡ little (take 2 (drop at bytes.now)) }
 {
-    let Num::Got(x, _) = read_u16(bytes, at, RunTimeEndian::Little) else {
+    let Ok((x, _)) = read_u16(bytes, at, RunTimeEndian::Little) else {
         return 0;
     };
     x
 }
 
 // The number of eight bytes at a place.
+#[tactic(auto, using(section_bytes::proofs::ReaderLaws::uint_got))]
 fn address(bytes: &[u8], at: usize) -> u64
     requires { at + 8 ≤ length bytes.now }
     ensures { result ≡ little (take 8 (drop at bytes.now)) }
 {
-    let Num::Got(x, _) = read_u64(bytes, at, RunTimeEndian::Little) else {
+    let Ok((x, _)) = read_u64(bytes, at, RunTimeEndian::Little) else {
         return 0;
     };
     x
@@ -172,37 +164,42 @@ fn get_addresses(bytes: &[u8], at: usize, n: usize, to: &mut [u64; LIMIT])
 }
 
 // The coverage of a sheet, put into two arrays that a caller lends, and how many ranges it has: 12 where the bytes are none.
-pub fn place_sheet(bytes: &[u8], begins: &mut [u64; LIMIT], ends: &mut [u64; LIMIT]) -> Collected
-    ensures { placed (told_count result) begins.new ends.new ≡ placing (sheet_ranges bytes.now) begins.old ends.old }
+pub fn place_sheet(
+    bytes: &[u8],
+    begins: &mut [u64; LIMIT],
+    ends: &mut [u64; LIMIT],
+) -> Result<usize, Error>
+    ensures { placed (told_value result) begins.new ends.new ≡ placing (sheet_ranges bytes.now) begins.old ends.old }
 {
     let len = bytes.len();
     if len < HEAD {
-        return Collected::Refused(Error::BadSheet);
+        return Err(Error::BadSheet);
     }
     let n = half_word(bytes, 0) as usize;
     if LIMIT < n {
-        return Collected::Refused(Error::BadSheet);
+        return Err(Error::BadSheet);
     }
     if half_word(bytes, 2) != 8 {
-        return Collected::Refused(Error::BadSheet);
+        return Err(Error::BadSheet);
     }
     if len != HEAD + RANGE * n {
-        return Collected::Refused(Error::BadSheet);
+        return Err(Error::BadSheet);
     }
     if !lawful_in(bytes, n) {
-        return Collected::Refused(Error::BadSheet);
+        return Err(Error::BadSheet);
     }
     get_addresses(bytes, HEAD, n, begins);
     get_addresses(bytes, HEAD + 8 * n, n, ends);
-    Collected::Got(n)
+    Ok(n)
 }
 
-// The same by value: 12 where the bytes are no sheet, and the empty coverage.
-pub fn from_sheet(bytes: &[u8]) -> Made
+// The same by value.
+#[tactic(auto, using(coverage::proofs::PlaceLaws::making))]
+pub fn from_sheet(bytes: &[u8]) -> Result<Coverage, Error>
     ensures { told_made result ≡ made (sheet_ranges bytes.now) }
 {
     let mut begins = [0u64; LIMIT];
     let mut ends = [0u64; LIMIT];
-    let collected = place_sheet(bytes, &mut begins, &mut ends);
-    by_count(collected, begins, ends)
+    let n = place_sheet(bytes, &mut begins, &mut ends)?;
+    Ok(Coverage { n, begins, ends })
 }

@@ -5,8 +5,7 @@ ghost use Rattle.std.specs.Prelude.{◌≡◌, IfOk};
 ghost use Rattle.show.specs.Show.{is_given};
 ghost use Rattle.sheets.specs.Sheet.{sheet_ranges};
 
-use coverage::{Coverage, LIMIT, Verdict};
-use section_bytes::error::Error;
+use coverage::{Coverage, LIMIT};
 use sheets::{HEAD, RANGE};
 use std::io;
 
@@ -14,25 +13,12 @@ use std::io;
 // longer input for its length, neither because it was cut.
 pub const ROOM: usize = HEAD + RANGE * (LIMIT + 1) + 1;
 
-fn print_refusal(rt: &impl Print, e: Error) -> io::Result<()> {
-    println!(rt; "refused {}", e.number())
-}
-
-fn print_range(rt: &impl Print, begin: u64, end: u64) -> io::Result<()> {
-    println!(rt; "{begin:016x} {end:016x}")
-}
-
 // The count in decimal, then a line for each range.
-fn print_coverage(rt: &impl Print, coverage: Coverage) -> io::Result<()> {
-    let n = coverage.n;
-    let begins = coverage.begins;
-    let ends = coverage.ends;
-    println!(rt; "{n}")?;
-    for i in 0..n {
-        if LIMIT <= i {
-            return Ok(());
-        }
-        print_range(rt, begins[i], ends[i])?;
+fn print_coverage(rt: &impl Print, coverage: &Coverage) -> io::Result<()> {
+    println!(rt; "{}", coverage.n)?;
+    let ranges = coverage.begins.iter().zip(&coverage.ends);
+    for (begin, end) in ranges.take(coverage.n) {
+        println!(rt; "{begin:016x} {end:016x}")?;
     }
     Ok(())
 }
@@ -41,17 +27,14 @@ fn print_coverage(rt: &impl Print, coverage: Coverage) -> io::Result<()> {
 pub fn show(rt: &impl Print, sheet: &[u8]) -> io::Result<bool>
     ensures { IfOk result (λ given. given ≡ is_given (sheet_ranges sheet.now)) }
 {
-    let made = sheets::from_sheet(sheet);
-    let verdict = made.verdict;
-    match verdict {
-        Verdict::Refused(e) => {
-            print_refusal(rt, e)?;
-            Ok(false)
-        }
-        Verdict::Made => {
-            let coverage = made.coverage;
-            print_coverage(rt, coverage)?;
+    match sheets::from_sheet(sheet) {
+        Ok(coverage) => {
+            print_coverage(rt, &coverage)?;
             Ok(true)
+        }
+        Err(e) => {
+            println!(rt; "refused {}", e.number())?;
+            Ok(false)
         }
     }
 }

@@ -2,6 +2,5 @@ pub mod PlaceLaws
 pub mod SettleLaws
 pub mod GoingLaws
 pub mod StackLaws
-pub mod GivenLaws
 pub mod TogetherLaws
 pub mod AskedLaws

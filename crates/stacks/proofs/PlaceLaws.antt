@@ -3,13 +3,19 @@ use Prim.Native.Nat.{ℕ, zero, suc, ◌+◌, ◌-◌, ◌*◌, ◌^◌, ◌≤�
 use native.Mathlib.Omega.{arith}
 use native.Mathlib.Numerals.{add-one}
 use mathlib.Core.Bool.{Bool, true, false, ◌&&◌}
-use mathlib.Core.List.{List, [], ◌∷◌}
+use mathlib.Core.List.{List, [], ◌∷◌, ◌++◌}
 use mathlib.Core.Logic.{◌⊎◌, inl, inr, ⊎_elim}
 use mathlib.Core.Path.{◌≡◌, refl, sym, ap, ◌∙◌}
 use lib.Dec.{leb, ltb}
-use lib.ListN.{length, set, drop, replicate, length-set, length-drop, get_or-replicate}
-use lib.Seq.{sets, drop-cons, drop-length, get_or-set_same, get_or-set_other}
-use borrow.Author.Tests.{le-leb, lt-leb, leb-true, lt-ltb, le-ltb}
+use lib.ListN.{length, get_or, set, drop, replicate, length-set, get_or-replicate}
+use lib.Seq.{sets, sets-eq, get_or-set_same, get_or-set_other}
+use borrow.Author.Tests.{le-leb, leb-true, lt-ltb, le-ltb}
+use Rattle.std.specs.Prelude.{Some}
+use Rattle.std.specs.Bool.{MatchBool}
+use Rattle.std.specs.List.{IsAllAdjacentAnswer}
+use Rattle.std.specs.List.Sorted.{IsNonDecreasing}
+use Rattle.std.specs.Ordering.{nat_cmp, is_le, is_some_and}
+use Rattle.std.proofs.lemmas.List.Sorted.{non_decreasing_from_is_sorted}
 use Rattle.section_bytes.specs.Read.{pick}
 use Rattle.section_bytes.proofs.Order.{lt_or_le}
 use Rattle.stacks.specs.Ascending.{ascends}
@@ -70,35 +76,7 @@ module _ (a : List ℕ) (x : ℕ) (up : Ascending a) where
         from = λ i q s. let o = up k i (omega (arith, l.0)) s in omega (arith, l.1);
       }
 
--- the scan of the order
-head_ascends : (a : ℕ) (l : List ℕ) → 0 < length l → ascends (a ∷ l) ≡ (leb a (at l 0) && ascends l)
-unfolding ascends
-head_ascends a [] h = absurd (omega arith)
-head_ascends a (b ∷ l) h = refl
-
-short_ascends : (l : List ℕ) → length l ≤ 1 → ascends l ≡ true
-unfolding ascends
-short_ascends [] h = refl
-short_ascends (a ∷ []) h = refl
-short_ascends (a ∷ b ∷ l) h = absurd (omega arith)
-
-step_ascends : (l : List ℕ) (i : ℕ) → i + 1 < length l → ascends (drop i l) ≡ (leb (at l i) (at l (i + 1)) && ascends (drop (i + 1) l))
-step_ascends l i h =
-    let n : drop (i + 1) l ≡ at l (i + 1) ∷ drop (suc (i + 1)) l = drop-cons l (i + 1) 0 h in
-    let m : drop i l ≡ at l i ∷ drop (i + 1) l = drop-cons l i 0 (omega arith) ∙ ap (λ (k : ℕ). at l i ∷ drop k l) (sym (add-one i)) in
-    let z : 0 < length (drop (i + 1) l) = let y = length-drop (i + 1) l in omega arith in
-    ap ascends m ∙ head_ascends (at l i) (drop (i + 1) l) z ∙ ap (λ (b : ℕ). leb (at l i) b && ascends (drop (i + 1) l)) (ap (λ (q : List ℕ). at q 0) n)
-
-module _ (l : List ℕ) (i : ℕ) where
-  pub scanned : i + 1 < length l → at l i ≤ at l (i + 1) → ascends (drop i l) ≡ ascends l → ascends (drop (i + 1) l) ≡ ascends l
-  scanned h o q = ap (λ (b : Bool). b && ascends (drop (i + 1) l)) (sym (le-leb (at l i) (at l (i + 1)) o)) ∙ sym (step_ascends l i h) ∙ q
-
-  pub descends : i + 1 < length l → at l (i + 1) < at l i → ascends (drop i l) ≡ ascends l → false ≡ ascends l
-  descends h o q = ap (λ (b : Bool). b && ascends (drop (i + 1) l)) (sym (lt-leb (at l i) (at l (i + 1)) o)) ∙ sym (step_ascends l i h) ∙ q
-
-  pub scanned_all : length l ≤ i + 1 → ascends (drop i l) ≡ ascends l → true ≡ ascends l
-  scanned_all h q = sym (short_ascends (drop i l) (let y = length-drop i l in omega arith)) ∙ q
-
+-- the order of the addresses
 both : (x y : Bool) → (x && y) ≡ true → (x ≡ true) × (y ≡ true)
 both true y q = (refl, q)
 both false y q = let z : ◌≡◌ {A = ℕ} 0 1 = cc in absurd (omega arith)
@@ -117,6 +95,27 @@ ascending_in (a ∷ b ∷ l) q zero (suc j) h k =
 ascending_in (a ∷ b ∷ l) q (suc i) zero h k = absurd (omega arith)
 ascending_in (a ∷ b ∷ l) q (suc i) (suc j) h k = ascending_in (b ∷ l) (both (leb a b) (ascends (b ∷ l)) q).1 i j (omega arith) (omega arith)
 
+pub ascends_all : (l : List ℕ) → ((i : ℕ) → suc i < length l → at l i ≤ at l (suc i)) → ascends l ≡ true
+unfolding ascends
+ascends_all [] h = refl
+ascends_all (a ∷ []) h = refl
+ascends_all (a ∷ b ∷ l) h = rw (le-leb a b (h 0 (omega arith))) (ascends_all (b ∷ l) (λ i k. h (suc i) (omega arith)))
+
+not_true : (t : Bool) → (t ≡ true → ⊥) → t ≡ false
+not_true true h = absurd (h refl)
+not_true false h = refl
+
+pub ascends_not : (l : List ℕ) (i : ℕ) → suc i < length l → at l (suc i) < at l i → ascends l ≡ false
+ascends_not l i h k = not_true (ascends l) (λ q. let o = ascending_in l q i (suc i) (omega arith) h in omega arith)
+
+-- what the library's test of the order answers
+sorted_by : (l : List ℕ) (r : Bool) → MatchBool r (IsNonDecreasing l) ((k : ℕ) × (k + 1 < length l) × ((d : ℕ) → get_or l (k + 1) d < get_or l k d)) → ascends l ≡ r
+sorted_by l true h = ascends_all l (λ i k. h i (suc i) 0 (omega arith) k)
+sorted_by l false h = let z = h.2 0 in ascends_not l h.0 (omega (arith, h.1)) (rw (← add-one h.0) z)
+
+pub sorted_is : (l : List ℕ) (r : Bool) → IsAllAdjacentAnswer (λ x y b. is_some_and is_le (Some (nat_cmp x y)) ≡ b) l r → ascends l ≡ r
+sorted_is l r h = sorted_by l r (non_decreasing_from_is_sorted l r h)
+
 -- numbers put over a list from a place on
 sets_before : (vs l : List ℕ) (k i : ℕ) → i < k → at (sets l k vs) i ≡ at l i
 sets_before [] l k i h = refl
@@ -133,6 +132,12 @@ sets_inside (v ∷ vs) l k (suc i) h q =
     ap (λ (j : ℕ). at (sets (set l k v) (suc k) vs) j) (omega arith) ∙ sets_inside vs (set l k v) (suc k) i (let y = length-set l k v in omega arith) (omega arith)
 
 module _ (l : List ℕ) (few : length l ≤ 64) where
+  -- the copy
+  pub padded_is : l ++ drop (length l) (replicate 64 (2 ^ 64 - 1)) ≡ padded l
+  padded_is =
+      let e : length l ≡ 0 + length l = omega arith in
+      ap (λ (n : ℕ). l ++ drop n (replicate 64 (2 ^ 64 - 1))) e ∙ sym (sets-eq l (replicate 64 (2 ^ 64 - 1)) 0 (omega arith))
+
   pub padded_in : (i : ℕ) → i < length l → at (padded l) i ≡ at l i
   padded_in i h = ap (at (padded l)) (omega arith) ∙ sets_inside l (replicate 64 (2 ^ 64 - 1)) 0 i (omega arith) h
 
@@ -145,31 +150,6 @@ module _ (l : List ℕ) (few : length l ≤ 64) where
       (λ p. let x = padded_in j p in let y = padded_in i (omega arith) in let o = ascending_in l up i j h p in omega arith)
       (λ p. let x = padded_behind j p k in ⊎_elim (λ q. let y = padded_in i q in let o = small i in omega arith) (λ q. let y = padded_behind i q (omega arith) in omega arith) (lt_or_le i (length l)))
       (lt_or_le j (length l))
-
--- the copy
-pub record Copying (l : List ℕ) (n : ℕ) (all : List ℕ) (i : ℕ) : Type 0 where
-  pub whole : n ≡ length l
-  pub few : n ≤ 64
-  pub most : i ≤ n
-  pub long : length all ≡ 64
-  pub rest : sets all i (drop i l) ≡ padded l
-
-pub copying_step : {l : List ℕ} {n : ℕ} {all : List ℕ} {i : ℕ} → Copying l n all i → i < n → Copying l n (set all i (at l i)) (i + 1)
-copying_step {l} {n} {all} {i} h lt =
-    record {
-      whole = h.whole;
-      few = h.few;
-      most = omega arith;
-      long = length-set all i (at l i) ∙ h.long;
-      rest =
-          ap (λ (k : ℕ). sets (set all i (at l i)) k (drop k l)) (add-one i)
-          ∙ ap (λ (t : List ℕ). sets all i t) (sym (drop-cons l i 0 (omega (arith, h.whole)))) ∙ h.rest;
-    }
-
-pub copying_end : {l : List ℕ} {n : ℕ} {all : List ℕ} {i : ℕ} → Copying l n all i → n ≤ i → all ≡ padded l
-copying_end {l} {n} {all} {i} h done =
-    let last : i ≡ length l = omega (arith, h.whole, h.most) in
-    sym (ap (λ (t : List ℕ). sets all i t) (ap (λ (k : ℕ). drop k l) last ∙ drop-length l)) ∙ h.rest
 
 -- from one place that has its answer to the next
 pub hopped : {next : List ℕ} {low i : ℕ} → Hops next → ((m : ℕ) → low ≤ m → m < i → Done next m) → (m : ℕ) → low ≤ m → m < at next i → Done next m

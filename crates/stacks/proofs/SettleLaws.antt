@@ -96,8 +96,8 @@ module _ (a : List ℕ) (next₀ : List ℕ) (rows₀ : List (List ℕ)) (b e : 
         let y = at_other next i (i + 1) m q in
         inr (record { waited = k.waited; begun = k.begun; ended = k.ended; done = let z = k.done in omega arith; laid = laid_other rows i row m row q k.laid })
 
-    pub settled_one : b ≤ at a i → at a i < e → Waits next i → Settling (set next i (i + 1)) (set rows i row) (i + 1)
-    settled_one l u w =
+    pub settled_one : FirstAt a b first → at a i < e → Waits next i → Settling (set next i (i + 1)) (set rows i row) (i + 1)
+    settled_one f u w =
         record {
           hops = put_hops;
           from = let z = h.from in omega arith;
@@ -109,7 +109,7 @@ module _ (a : List ℕ) (next₀ : List ℕ) (rows₀ : List (List ℕ)) (b e : 
               (λ q.
               inr (record {
                 waited = let z = not_yet (h.each i room) w in let y = ap (at next₀) q in omega arith;
-                begun = let y = ap (at a) q in omega arith;
+                begun = let y = ap (at a) q in let l = f.from i h.from room in omega arith;
                 ended = let y = ap (at a) q in omega arith;
                 done = let z = at_same next i (i + 1) m (omega (arith, h.hops.long)) q in omega arith;
                 laid = laid_same rows i row m q;

@@ -8,7 +8,7 @@ use mathlib.Core.Logic.{⊎_elim}
 use mathlib.Core.Path.{◌≡◌, refl, sym, ap, ◌∙◌, subst}
 use lib.ListN.{length, get_or, set, drop, length-map, get_or-append}
 use lib.Seq.{sets, sets-eq, get_or-set_other}
-use borrow.Author.Tests.{le-leb, lt-ltb, le-ltb}
+use borrow.Author.Tests.{lt-ltb, le-ltb}
 use Rattle.section_bytes.specs.Read.{Result, gives, refused, and_then}
 use Rattle.section_bytes.specs.Error.{refusal}
 use Rattle.section_bytes.specs.Reader.{is_size}
@@ -39,22 +39,8 @@ use Rattle.stacks.specs.Ascending.{ascends}
 use Rattle.stacks.specs.Places.{at}
 use Rattle.stacks.specs.Stack.{checked, longest, range_row, location_row, Answers, answers, on_checked, together}
 use Rattle.stacks.specs.Together.{InOrder, Together, ReadsCounted}
-use Rattle.stacks.proofs.PlaceLaws.{ascending_in}
+use Rattle.stacks.proofs.PlaceLaws.{ascends_all, ascends_not}
 use Rattle.stacks.proofs.GoingLaws.{longest_least}
-
--- the order of the addresses
-ascends_all : (l : List ℕ) → ((i : ℕ) → suc i < length l → at l i ≤ at l (suc i)) → ascends l ≡ true
-unfolding ascends
-ascends_all [] h = refl
-ascends_all (a ∷ []) h = refl
-ascends_all (a ∷ b ∷ l) h = rw (le-leb a b (h 0 (omega arith))) (ascends_all (b ∷ l) (λ i k. h (suc i) (omega arith)))
-
-not_true : (t : Bool) → (t ≡ true → ⊥) → t ≡ false
-not_true true h = absurd (h refl)
-not_true false h = refl
-
-ascends_not : (l : List ℕ) (i : ℕ) → suc i < length l → at l (suc i) < at l i → ascends l ≡ false
-ascends_not l i h k = not_true (ascends l) (λ q. let o = ascending_in l q i (suc i) (omega arith) h in omega arith)
 
 -- an answer stands at its place, and what is behind all of them is left
 row_in : (row : ℕ → List ℕ) (l : List ℕ) (i : ℕ) → i < length l → get_or (map row l) i [] ≡ row (at l i)

@@ -21,8 +21,6 @@ use Rattle.ffi_words.specs.Locations.{location_found}
 use Rattle.ffi_words.specs.declared.coverages.YzCount.{YzCount}
 use Rattle.ffi_words.specs.declared.locations.YzLocation.{YzLocation}
 use Rattle.stacks.specs.Ascending.{ascends}
-use Rattle.stacks.specs.declared.Reading.{Reading}
-use Rattle.stacks.specs.declared.Reading.TheVariants as code
 
 -- 20 for more than 64 addresses, then 21 for one that is above the one after it
 unfoldable pub checked : List ℕ → Result Unit
@@ -102,8 +100,3 @@ counted answer rows = record { answer = answer; rows = rows }
 
 abbrev pub counted_of : Answers → Counted
 counted_of x = counted (count_written x.read) x.rows
-
--- the code's answer told as the definition's
-abbrev pub told_reading : Reading → Result ℕ
-told_reading (code.Entries n) = gives n
-told_reading (code.Refused e) = refusal e

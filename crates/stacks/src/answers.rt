@@ -6,43 +6,46 @@ ghost use Rattle.ffi_words.specs.Coverages.{count_written};
 ghost use Rattle.lookups.specs.Lookup.{told_location_found};
 ghost use Rattle.stacks.specs.Either.{given_to};
 ghost use Rattle.stacks.specs.Places.{Filled};
-ghost use Rattle.stacks.specs.Stack.{words, location_row, told_reading};
+ghost use Rattle.section_bytes.specs.Error.{told_value};
+ghost use Rattle.entries.specs.Lists.{are_locations};
+ghost use Rattle.stacks.specs.Stack.{words, location_row};
 
+use super::MOST;
 use super::places::{Addresses, Next};
-use super::{MOST, Reading};
-use entries::Expression;
+use entries::{Expression, Lists, NO_EXPRESSION};
 use ffi_words::coverages::YzCount;
 use ffi_words::locations::YzLocation;
-use lookups::LocationFound;
+use lists::LocationListEntry;
+use section_bytes::error::Error;
 
 // The words of the answers, six for each.
 pub type Rows = [[u64; 6]; MOST];
 
 // The expression of a location; a range has none, which is told as the empty part at the section's start.
-pub(crate) fn shown(locations: bool, data: Expression) -> Expression
-    ensures { result ≡ pick locations «data» no_expression }
+pub(crate) fn shown(lists: &Lists, data: Expression) -> Expression
+    ensures { result ≡ pick (are_locations lists.now) «data» no_expression }
 {
-    if locations {
-        return data;
+    match *lists {
+        Lists::Ranges(_) => NO_EXPRESSION,
+        Lists::Locations(_) => data,
     }
-    Expression { offset: 0, len: 0 }
 }
 
 // What an address that waits gets where the reading ends: the refusal met, or the default location that was kept, where that holds it.
-fn given(last: LocationFound, address: u64) -> LocationFound
+#[tactic(auto, using(std::proofs::lemmas::Result::err_from_is_err_and))]
+fn given(
+    last: Result<Option<LocationListEntry>, Error>,
+    address: u64,
+) -> Result<Option<LocationListEntry>, Error>
     ensures { told_location_found result ≡ given_to address (told_location_found last) }
 {
-    match last {
-        LocationFound::Found(location) => {
-            let range = location.range;
-            if lookups::holds(range, address) {
-                return LocationFound::Found(location);
-            }
-            LocationFound::NotThere
-        }
-        LocationFound::NotThere => LocationFound::NotThere,
-        LocationFound::Refused(e) => LocationFound::Refused(e),
+    let Some(location) = last? else {
+        return Ok(None);
+    };
+    if lookups::holds(location.range, address) {
+        return Ok(Some(location));
     }
+    Ok(None)
 }
 
 // An answer is put at a place.
@@ -63,12 +66,13 @@ fn put(rows: &mut Rows, i: usize, found: YzLocation)
 }
 
 // Each of the first n places that waits gets the last answer.
+#[tactic(auto, using(crate::proofs::SettleLaws::fill_start, crate::proofs::SettleLaws::fill_put, crate::proofs::SettleLaws::fill_skip, crate::proofs::SettleLaws::fill_until))]
 pub(crate) fn fill(
     addresses: &Addresses,
     n: usize,
     next: &Next,
     rows: &mut Rows,
-    last: LocationFound,
+    last: Result<Option<LocationListEntry>, Error>,
 )
     requires { n ≤ 64 }
     ensures { Filled (λ a. location_row (given_to a (told_location_found last))) addresses.now n next.now rows.old rows.new }
@@ -86,7 +90,12 @@ pub(crate) fn fill(
 }
 
 // The same where every place waits. A function of its own, so that its array shares the stack with those of the reading.
-pub(crate) fn fill_all(addresses: &Addresses, n: usize, rows: &mut Rows, last: LocationFound)
+pub(crate) fn fill_all(
+    addresses: &Addresses,
+    n: usize,
+    rows: &mut Rows,
+    last: Result<Option<LocationListEntry>, Error>,
+)
     requires { n ≤ 64 }
     ensures { Filled (λ a. location_row (given_to a (told_location_found last))) addresses.now n (replicate 64 0) rows.old rows.new }
 {
@@ -95,15 +104,15 @@ pub(crate) fn fill_all(addresses: &Addresses, n: usize, rows: &mut Rows, last: L
 }
 
 // How many entries were read, for C.
-pub fn count_read(r: Reading) -> YzCount
-    ensures { result ≡ count_written (told_reading r) }
+pub fn count_read(r: Result<u64, Error>) -> YzCount
+    ensures { result ≡ count_written (told_value r) }
 {
     match r {
-        Reading::Entries(n) => YzCount {
+        Ok(count) => YzCount {
             done: ffi_words::common::comes_to(ffi_words::common::DONE),
-            count: n,
+            count,
         },
-        Reading::Refused(e) => YzCount {
+        Err(e) => YzCount {
             done: ffi_words::common::refused(e),
             count: 0,
         },

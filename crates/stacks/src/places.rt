@@ -1,7 +1,6 @@
 // The places of addresses in ascending order, and which of them wait for their answer.
 ghost use Rattle.std.specs.Prelude.{◌≡◌, [], ◌∷◌, ◌+◌, ◌-◌, ◌^◌, ◌≤◌, ◌<◌, eqb, ltb, length, false};
 ghost use Rattle.section_bytes.specs.Read.{pick};
-ghost use Rattle.stacks.specs.Ascending.{ascends as ascendsIn};
 ghost use Rattle.stacks.specs.Places.{at, Ascending, padded as paddedTo, Less, FirstAt, Between, Hops, WaitingFrom, Settled};
 
 use super::MOST;
@@ -13,38 +12,16 @@ pub type Addresses = [u64; MOST];
 // A place waits where the number here is not above it. Else every place from it up to that number has its answer.
 pub type Next = [usize; MOST];
 
-// Whether no address is above the one after it.
-pub(crate) fn ascends(addresses: &[u64]) -> bool
-    ensures { result ≡ ascendsIn addresses.now }
-{
-    let mut i: usize = 0;
-    while i + 1 < addresses.len() {
-        if addresses[i + 1] < addresses[i] {
-            return false;
-        }
-        i += 1;
-    }
-    true
-}
-
-#[derive(Clone, Copy)]
-pub(crate) struct AllPlaces {
-    pub(crate) addresses: Addresses,
-}
-
 // At most 64 addresses, and 2^64 - 1 behind them.
-pub(crate) fn padded(addresses: &[u64]) -> AllPlaces
+#[tactic(auto, using(crate::proofs::PlaceLaws::padded_is))]
+pub(crate) fn padded(addresses: &[u64]) -> Addresses
     requires { length addresses.now ≤ 64 }
-    ensures { result.addresses ≡ paddedTo addresses.now }
+    ensures { result ≡ paddedTo addresses.now }
 {
     let mut all = [0xffff_ffff_ffff_ffffu64; MOST];
     let n = addresses.len();
-    let mut i: usize = 0;
-    while i < n {
-        all[i] = addresses[i];
-        i += 1;
-    }
-    AllPlaces { addresses: all }
+    all[..n].copy_from_slice(addresses);
+    all
 }
 
 // 1 where a number is below another, else 0. A number, so that a search needs no branch, which would be guessed wrong half the time.
@@ -55,6 +32,7 @@ fn less(x: u64, y: u64) -> usize
 }
 
 // Of twice as many places from k on, less one, the half in which the first one is whose address is not below a number.
+#[tactic(auto, using(crate::proofs::PlaceLaws::halved, crate::proofs::PlaceLaws::less_times))]
 fn half(addresses: &Addresses, k: usize, width: usize, x: u64) -> usize
     requires { Ascending addresses.now × (0 < width) × Between addresses.now x k (width + width - 1) }
     ensures { Between addresses.now x result (width - 1) }
@@ -63,6 +41,7 @@ fn half(addresses: &Addresses, k: usize, width: usize, x: u64) -> usize
 }
 
 // The first place whose address is not below a number.
+#[tactic(auto, using(crate::proofs::PlaceLaws::at_start, crate::proofs::PlaceLaws::at_last, crate::proofs::PlaceLaws::less_one))]
 pub(crate) fn first_at(addresses: &Addresses, x: u64) -> usize
     requires { Ascending addresses.now }
     ensures { FirstAt addresses.now x result }
@@ -110,6 +89,7 @@ pub(crate) fn may_hold(before: u64, begin: u64, end: u64, after: u64) -> bool
 
 // A range goes to the places that wait and whose addresses it holds, of which `first` is not above any; a place behind all that it
 // holds is given back.
+#[tactic(auto, using(crate::proofs::PlaceLaws::above_met, crate::proofs::PlaceLaws::above_not_met, crate::proofs::SettleLaws::settling_start, crate::proofs::SettleLaws::settled_past, crate::proofs::SettleLaws::settled_none, crate::proofs::SettleLaws::settled_some))]
 pub(crate) fn settle(
     addresses: &Addresses,
     next: &mut Next,
@@ -141,6 +121,7 @@ pub(crate) fn settle(
 }
 
 // The first place from `low` on that waits; where none of the first n does, one at or above n.
+#[tactic(auto, using(crate::proofs::PlaceLaws::hopped))]
 pub(crate) fn waiting_from(next: &Next, low: usize, n: usize) -> usize
     requires { (n ≤ 64) × Hops next.now }
     ensures { WaitingFrom next.now low n result }

@@ -1,4 +1,3 @@
 pub mod HeaderLaws
-pub mod RowLaws
 pub mod AddrLaws
 pub mod PaddedLaws

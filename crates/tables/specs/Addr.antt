@@ -1,31 +1,18 @@
 -- Address tables (DWARF 5, 7.27).
 use Rattle.std.specs.Prelude.{ℕ, ◌+◌, ◌-◌, List, leb, length}
 use Rattle.section_bytes.specs.Read.{Result, gives, refused, got, Read, read_then, pick}
-use Rattle.section_bytes.specs.Error.{refusal}
 use Rattle.section_bytes.specs.Reader.{address, part_of}
 use Rattle.section_bytes.specs.declared.common.DebugAddrBase.{DebugAddrBase}
 use Rattle.section_bytes.specs.declared.common.DebugAddrIndex.{DebugAddrIndex}
 use Rattle.section_bytes.specs.declared.endianity.RunTimeEndian.{RunTimeEndian}
-use Rattle.tables.specs.Header.{head}
-use Rattle.tables.specs.Lists.{unit_encoding, rest_of}
+use Rattle.tables.specs.Header.{head, unit_encoding}
+use Rattle.tables.specs.Lists.{rest_of}
 use Rattle.tables.specs.Row.{row_at}
 use Rattle.tables.specs.Next.{Next, ends, hands}
 use Rattle.tables.specs.declared.header.Head.{Head}
-use Rattle.tables.specs.declared.addr.AddressAnswer.{AddressAnswer}
-use Rattle.tables.specs.declared.addr.AddressAnswer.TheVariants as answer
 use Rattle.tables.specs.declared.addr.AddrHeader.{AddrHeader}
-use Rattle.tables.specs.declared.addr.AddrHeaderAnswer.{AddrHeaderAnswer}
-use Rattle.tables.specs.declared.addr.AddrHeaderAnswer.TheVariants as header
 use Rattle.tables.specs.declared.addr.AddrHeaderIter.{AddrHeaderIter}
-use Rattle.tables.specs.declared.addr.NextHeader.{NextHeader}
-use Rattle.tables.specs.declared.addr.NextHeader.TheVariants as headers
 use Rattle.tables.specs.declared.addr.AddrEntryIter.{AddrEntryIter}
-use Rattle.tables.specs.declared.addr.NextEntry.{NextEntry}
-use Rattle.tables.specs.declared.addr.NextEntry.TheVariants as entries
-
-abbrev pub told_address : AddressAnswer → Result ℕ
-told_address (answer.Address a) = gives a
-told_address (answer.Refused e) = refusal e
 
 -- the address of an index: its row, then an address of the size
 unfoldable pub address_at : RunTimeEndian → ℕ → DebugAddrBase → DebugAddrIndex → List ℕ → Result ℕ
@@ -39,10 +26,6 @@ table_of at h c = record { offset = record { 0 = at }; encoding = unit_encoding 
 unfoldable pub addr_header : RunTimeEndian → List ℕ → ℕ → Read AddrHeader
 addr_header endian s at = read_then (head endian s at) (λ h c. gives (got (table_of at h c) h.end))
 
-abbrev pub told_header : AddrHeaderAnswer → Read AddrHeader
-told_header (header.Header h c) = gives (got h c)
-told_header (header.Refused e) = refusal e
-
 -- the headers of a section, one after the other; a refusal leaves the walk at the section's end
 abbrev pub headers_at : ℕ → AddrHeaderIter
 headers_at c = record { at = c }
@@ -53,11 +36,6 @@ on_header len (refused n vs) = hands (refused n vs) (headers_at len)
 
 unfoldable pub next_header : RunTimeEndian → List ℕ → AddrHeaderIter → Next AddrHeader AddrHeaderIter
 next_header endian s w = pick (leb (length s) w.at) (ends w) (on_header (length s) (addr_header endian s w.at))
-
-abbrev pub told_next_header : NextHeader → Next AddrHeader AddrHeaderIter
-told_next_header (headers.Header h w) = hands (gives h) w
-told_next_header (headers.End w) = ends w
-told_next_header (headers.Refused e w) = hands (refusal e) w
 
 -- the addresses of a table, one after the other, in the part of the section that is left
 abbrev pub entries_of : AddrHeader → AddrEntryIter
@@ -76,8 +54,3 @@ next_in_part endian part w = pick (leb (length part) 0) (ends w) (on_entry w (ad
 
 unfoldable pub next_entry : RunTimeEndian → List ℕ → AddrEntryIter → Next ℕ AddrEntryIter
 next_entry endian s w = next_in_part endian (part_of s w.entries.offset w.entries.len) w
-
-abbrev pub told_next_entry : NextEntry → Next ℕ AddrEntryIter
-told_next_entry (entries.Address a w) = hands (gives a) w
-told_next_entry (entries.End w) = ends w
-told_next_entry (entries.Refused e w) = hands (refusal e) w

@@ -4,23 +4,15 @@ use Rattle.section_bytes.specs.Read.{gives, got, Read, read_then, pick}
 use Rattle.section_bytes.specs.Error.{refusal}
 use Rattle.section_bytes.specs.Reader.{uint, address_size_at, initial_length, truncate}
 use Rattle.section_bytes.specs.declared.UnitLength.{UnitLength}
+use Rattle.section_bytes.specs.declared.common.Encoding.{Encoding}
 use Rattle.section_bytes.specs.declared.endianity.RunTimeEndian.{RunTimeEndian}
 use Rattle.section_bytes.specs.declared.endianity.RunTimeEndian.TheVariants.{Little}
-use Rattle.section_bytes.specs.declared.error.Error.TheVariants.{UnexpectedEof, UnknownVersion, UnsupportedSegmentSize}
-use Rattle.section_bytes.specs.declared.Num.{Num}
-use Rattle.section_bytes.specs.declared.Num.TheVariants as num
+use Rattle.section_bytes.specs.declared.error.Error.TheVariants.{UnknownVersion, UnsupportedSegmentSize}
 use Rattle.tables.specs.declared.header.Head.{Head}
-use Rattle.tables.specs.declared.header.HeadAnswer.{HeadAnswer}
-use Rattle.tables.specs.declared.header.HeadAnswer.TheVariants as answer
 
-abbrev pub told_head : HeadAnswer → Read Head
-told_head (answer.Got h c) = gives (got h c)
-told_head (answer.Refused e) = refusal e
-
--- a refusal handed on by the code
-abbrev pub passed_head : Num → HeadAnswer
-passed_head (num.Got v c) = answer.Refused UnexpectedEof
-passed_head (num.Refused e) = answer.Refused e
+-- how a unit of version 5 is written, by its fields
+abbrev pub unit_encoding : Head → Encoding
+unit_encoding h = record { address_size = h.address_size; format = h.format; version = 5 }
 
 abbrev pub head_of : UnitLength → ℕ → ℕ → Head
 head_of u end size = record { length = u.length; format = u.format; end = end; address_size = size }

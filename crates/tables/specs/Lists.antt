@@ -1,5 +1,6 @@
 -- The header of a set of lists (DWARF 5, 7.28 and 7.29).
-use Rattle.std.specs.Prelude.{ℕ, ◌+◌, ◌-◌, List, leb, take}
+use Rattle.std.specs.Prelude.{ℕ, ◌+◌, ◌-◌, List, leb, take, Ok, Err}
+use Rattle.std.specs.declared.result.Result.{Result as Answer}
 use Rattle.section_bytes.specs.Read.{Result, gives, read_then, pick}
 use Rattle.section_bytes.specs.Error.{refusal}
 use Rattle.section_bytes.specs.Common.{initial_length_size}
@@ -8,12 +9,11 @@ use Rattle.section_bytes.specs.declared.Span.{Span}
 use Rattle.section_bytes.specs.declared.common.Encoding.{Encoding}
 use Rattle.section_bytes.specs.declared.common.DwarfFileType.{DwarfFileType}
 use Rattle.section_bytes.specs.declared.common.DwarfFileType.TheVariants.{Main, Dwo}
+use Rattle.section_bytes.specs.declared.error.Error.{Error}
 use Rattle.section_bytes.specs.declared.endianity.RunTimeEndian.{RunTimeEndian}
-use Rattle.tables.specs.Header.{head}
+use Rattle.tables.specs.Header.{head, unit_encoding}
 use Rattle.tables.specs.declared.header.Head.{Head}
 use Rattle.tables.specs.declared.lists.ListsHeader.{ListsHeader}
-use Rattle.tables.specs.declared.lists.ListsAnswer.{ListsAnswer}
-use Rattle.tables.specs.declared.lists.ListsAnswer.TheVariants as answer
 
 -- a header, and the part of the section that is left of its unit
 pub record Parsed : Type 0 where
@@ -23,13 +23,9 @@ pub record Parsed : Type 0 where
 abbrev pub parsed : ListsHeader → Span → Parsed
 parsed h r = record { header = h; rest = r }
 
-abbrev pub told_lists : ListsAnswer → Result Parsed
-told_lists (answer.Header h r) = gives (parsed h r)
-told_lists (answer.Refused e) = refusal e
-
--- how a unit of version 5 is written, by its fields
-abbrev pub unit_encoding : Head → Encoding
-unit_encoding h = record { address_size = h.address_size; format = h.format; version = 5 }
+abbrev pub told_lists : Answer (ListsHeader × Span) Error → Result Parsed
+told_lists (Ok p) = gives (parsed p.0 p.1)
+told_lists (Err e) = refusal e
 
 -- what is left between a place and the unit's end
 abbrev pub rest_of : Head → ℕ → Span

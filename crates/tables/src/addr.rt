@@ -1,18 +1,15 @@
 // Address tables in `.debug_addr`.
-ghost use Rattle.std.specs.Prelude.{◌≡◌};
-ghost use Rattle.tables.specs.Addr.{told_address, address_at, told_header, addr_header, told_next_header, next_header, entries_of, told_next_entry, next_entry};
+#![tactic(auto, using(section_bytes::proofs::ReaderLaws::reading, crate::proofs::HeaderLaws::place_inside, crate::proofs::AddrLaws::part_ends_inside, crate::proofs::AddrLaws::address_ends_inside), unfolding(crate::specs::Addr::address_at, crate::specs::Addr::addr_header, crate::specs::Addr::next_header, crate::specs::Addr::next_entry))]
 
-use super::header::HeadAnswer;
+ghost use Rattle.std.specs.Prelude.{◌≡◌, ◌+◌, ◌≤◌, ◌<◌, ◌^◌};
+ghost use Rattle.section_bytes.specs.Error.{told, told_value};
+ghost use Rattle.tables.specs.Addr.{address_at, addr_header, next_header, entries_of, moved_on, next_entry};
+ghost use Rattle.tables.specs.Next.{told_next};
+
 use section_bytes::common::{DebugAddrBase, DebugAddrIndex, DebugAddrOffset, Encoding};
 use section_bytes::endianity::RunTimeEndian;
 use section_bytes::error::Error;
-use section_bytes::{Num, Place, Span};
-
-#[derive(Clone, Copy)]
-pub enum AddressAnswer {
-    Address(u64),
-    Refused(Error),
-}
+use section_bytes::{Read, Span};
 
 // The address of an index in the table at a base: 1 for the base, 9 for the product, 1 for the row, 6 for another size,
 // 1 for the address.
@@ -22,21 +19,12 @@ pub fn get_address(
     base: DebugAddrBase,
     index: DebugAddrIndex,
     endian: RunTimeEndian,
-) -> AddressAnswer
-    ensures { told_address result ≡ address_at endian address_size base index debug_addr.now }
+) -> Result<u64, Error>
+    ensures { told_value result ≡ address_at endian address_size base index debug_addr.now }
 {
-    match super::row::row_at(debug_addr, base.0, index.0, address_size) {
-        Place::Refused(e) => AddressAnswer::Refused(e),
-        Place::At(c) => match section_bytes::reader::read_address(
-            debug_addr,
-            c,
-            address_size,
-            endian,
-        ) {
-            Num::Refused(e) => AddressAnswer::Refused(e),
-            Num::Got(a, _) => AddressAnswer::Address(a),
-        },
-    }
+    let row = super::row::row_at(debug_addr, base.0, index.0, address_size)?;
+    let (address, _) = section_bytes::reader::read_address(debug_addr, row, address_size, endian)?;
+    Ok(address)
 }
 
 // A table: where its header stands, how it is written, the length that the header says, and where its addresses are.
@@ -48,39 +36,23 @@ pub struct AddrHeader {
     pub entries: Span,
 }
 
-// A table's header, with the place after the table.
-#[derive(Clone, Copy)]
-pub enum AddrHeaderAnswer {
-    Header(AddrHeader, usize),
-    Refused(Error),
-}
-
-// The header at a place: the refusals of its fields. The addresses follow it.
-pub fn parse_header(debug_addr: &[u8], at: usize, endian: RunTimeEndian) -> AddrHeaderAnswer
-    ensures { told_header result ≡ addr_header endian debug_addr.now at }
+// The header at a place, with the place after the table: the refusals of its fields. The addresses follow it.
+pub fn parse_header(debug_addr: &[u8], at: usize, endian: RunTimeEndian) -> Read<AddrHeader>
+    ensures { told result ≡ addr_header endian debug_addr.now at }
 {
-    match super::header::read_head(debug_addr, at, endian) {
-        HeadAnswer::Refused(e) => AddrHeaderAnswer::Refused(e),
-        HeadAnswer::Got(head, c) => {
-            let end = head.end;
-            let len = end - c;
-            let format = head.format;
-            let encoding = Encoding {
-                address_size: head.address_size,
-                format,
-                version: 5,
-            };
-            AddrHeaderAnswer::Header(
-                AddrHeader {
-                    offset: DebugAddrOffset(at as u64),
-                    encoding,
-                    length: head.length,
-                    entries: Span { offset: c, len },
-                },
-                end,
-            )
-        }
-    }
+    let (head, c) = super::header::read_head(debug_addr, at, endian)?;
+    let end = head.end;
+    let entries = Span {
+        offset: c,
+        len: end - c,
+    };
+    let header = AddrHeader {
+        offset: DebugAddrOffset(at as u64),
+        encoding: head.encoding(),
+        length: head.length,
+        entries,
+    };
+    Ok((header, end))
 }
 
 // A walk over the headers of a section: the place of the next one.
@@ -89,30 +61,22 @@ pub struct AddrHeaderIter {
     pub at: usize,
 }
 
-#[derive(Clone, Copy)]
-pub enum NextHeader {
-    Header(AddrHeader, AddrHeaderIter),
-    End(AddrHeaderIter),
-    Refused(Error, AddrHeaderIter),
-}
-
 impl AddrHeaderIter {
-    // The next header, or the end at the section's end. A refusal empties the walk.
-    pub fn next(self, debug_addr: &[u8], endian: RunTimeEndian) -> NextHeader
-        ensures { told_next_header result ≡ next_header endian debug_addr.now self }
+    // The next header, or none at the section's end. A refusal empties the walk.
+    pub fn next(
+        self,
+        debug_addr: &[u8],
+        endian: RunTimeEndian,
+    ) -> (Result<Option<AddrHeader>, Error>, AddrHeaderIter)
+        ensures { told_next result.0 result.1 ≡ next_header endian debug_addr.now self }
     {
-        let at = self.at;
-        if debug_addr.len() <= at {
-            return NextHeader::End(self);
+        let end = debug_addr.len();
+        if end <= self.at {
+            return (Ok(None), self);
         }
-        match parse_header(debug_addr, at, endian) {
-            AddrHeaderAnswer::Header(h, c) => NextHeader::Header(h, AddrHeaderIter { at: c }),
-            AddrHeaderAnswer::Refused(e) => NextHeader::Refused(
-                e,
-                AddrHeaderIter {
-                    at: debug_addr.len(),
-                },
-            ),
+        match parse_header(debug_addr, self.at, endian) {
+            Ok((header, after)) => (Ok(Some(header)), AddrHeaderIter { at: after }),
+            Err(e) => (Err(e), AddrHeaderIter { at: end }),
         }
     }
 }
@@ -129,53 +93,44 @@ impl AddrHeader {
     pub fn entries(self) -> AddrEntryIter
         ensures { result ≡ entries_of self }
     {
-        let entries = self.entries;
-        let encoding = self.encoding;
-        AddrEntryIter { entries, encoding }
+        AddrEntryIter {
+            entries: self.entries,
+            encoding: self.encoding,
+        }
     }
 }
 
-#[derive(Clone, Copy)]
-pub enum NextEntry {
-    Address(u64, AddrEntryIter),
-    End(AddrEntryIter),
-    Refused(Error, AddrEntryIter),
-}
-
 impl AddrEntryIter {
-    // The next address, or the end where no byte is left: 6 with another size, then 1. A refusal empties the walk.
-    pub fn next(self, debug_addr: &[u8], endian: RunTimeEndian) -> NextEntry
-        ensures { told_next_entry result ≡ next_entry endian debug_addr.now self }
+    // The walk that has some bytes of its part behind it.
+    fn moved_on(self, by: usize) -> AddrEntryIter
+        requires { by ≤ self.entries.len × self.entries.offset + by < 2 ^ 64 }
+        ensures { result ≡ moved_on self by }
     {
-        let entries = self.entries;
-        let encoding = self.encoding;
-        let offset = entries.offset;
-        let len = entries.len;
+        AddrEntryIter {
+            entries: Span {
+                offset: self.entries.offset + by,
+                len: self.entries.len - by,
+            },
+            encoding: self.encoding,
+        }
+    }
+
+    // The next address, or none where no byte is left: 6 with another size, then 1. A refusal empties the walk.
+    pub fn next(
+        self,
+        debug_addr: &[u8],
+        endian: RunTimeEndian,
+    ) -> (Result<Option<u64>, Error>, AddrEntryIter)
+        ensures { told_next result.0 result.1 ≡ next_entry endian debug_addr.now self }
+    {
+        let Span { offset, len } = self.entries;
         let part = section_bytes::reader::part(debug_addr, offset, len);
         if part.len() == 0 {
-            return NextEntry::End(self);
+            return (Ok(None), self);
         }
-        match section_bytes::reader::read_address(part, 0, encoding.address_size, endian) {
-            Num::Got(address, c) => NextEntry::Address(
-                address,
-                AddrEntryIter {
-                    entries: Span {
-                        offset: offset + c,
-                        len: len - c,
-                    },
-                    encoding,
-                },
-            ),
-            Num::Refused(e) => NextEntry::Refused(
-                e,
-                AddrEntryIter {
-                    entries: Span {
-                        offset: offset + len,
-                        len: 0,
-                    },
-                    encoding,
-                },
-            ),
+        match section_bytes::reader::read_address(part, 0, self.encoding.address_size, endian) {
+            Ok((address, c)) => (Ok(Some(address)), self.moved_on(c)),
+            Err(e) => (Err(e), self.moved_on(len)),
         }
     }
 }

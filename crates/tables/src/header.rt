@@ -1,11 +1,14 @@
 // The fields that each table begins with: unit_length, version, address_size, segment_selector_size.
-ghost use Rattle.std.specs.Prelude.{◌≡◌};
-ghost use Rattle.tables.specs.Header.{told_head, passed_head, fields, head};
+#![tactic(auto, using(section_bytes::proofs::ReaderLaws::reading, crate::proofs::HeaderLaws::size_small, crate::proofs::HeaderLaws::cut_length, crate::proofs::HeaderLaws::cut_stays), unfolding(crate::specs::Header::fields, crate::specs::Header::head))]
 
-use section_bytes::common::Format;
+ghost use Rattle.std.specs.Prelude.{◌≡◌};
+ghost use Rattle.section_bytes.specs.Error.{told};
+ghost use Rattle.tables.specs.Header.{fields, head, unit_encoding};
+
+use section_bytes::common::{Encoding, Format};
 use section_bytes::endianity::RunTimeEndian;
 use section_bytes::error::Error;
-use section_bytes::{InitialLength, Num, UnitLength};
+use section_bytes::{Read, UnitLength};
 
 // What the fields say: the unit's length and format, where the unit ends in the section, and the address size.
 #[derive(Clone, Copy)]
@@ -16,72 +19,47 @@ pub struct Head {
     pub address_size: u8,
 }
 
-// The fields that were read, with the place after them.
-#[derive(Clone, Copy)]
-pub enum HeadAnswer {
-    Got(Head, usize),
-    Refused(Error),
-}
-
-// A refusal passed on.
-fn passed(r: Num) -> HeadAnswer
-    ensures { result ≡ passed_head r }
-{
-    match r {
-        Num::Got(_, _) => HeadAnswer::Refused(Error::UnexpectedEof),
-        Num::Refused(e) => HeadAnswer::Refused(e),
+impl Head {
+    // How a unit of version 5 is written, by its fields.
+    pub(crate) fn encoding(self) -> Encoding
+        ensures { result ≡ unit_encoding self }
+    {
+        Encoding {
+            address_size: self.address_size,
+            format: self.format,
+            version: 5,
+        }
     }
 }
 
 // The fields after the length, in the section cut at the unit's end.
-fn read_fields(unit: &[u8], at: usize, length: UnitLength, endian: RunTimeEndian) -> HeadAnswer
-    ensures { told_head result ≡ fields endian unit.now «length» at }
+fn read_fields(unit: &[u8], at: usize, length: UnitLength, endian: RunTimeEndian) -> Read<Head>
+    ensures { told result ≡ fields endian unit.now «length» at }
 {
-    let r = section_bytes::reader::read_u16(unit, at, endian);
-    let Num::Got(version, c) = r else {
-        return passed(r);
-    };
+    let (version, c) = section_bytes::reader::read_u16(unit, at, endian)?;
     if version != 5 {
-        return HeadAnswer::Refused(Error::UnknownVersion(version));
+        return Err(Error::UnknownVersion(version));
     }
-    let r1 = section_bytes::reader::read_address_size(unit, c);
-    let Num::Got(address_size, c1) = r1 else {
-        return passed(r1);
-    };
-    let r2 = section_bytes::reader::read_u8(unit, c1);
-    let Num::Got(segment_size, c2) = r2 else {
-        return passed(r2);
-    };
+    let (address_size, c1) = section_bytes::reader::read_address_size(unit, c)?;
+    let (segment_size, c2) = section_bytes::reader::read_u8(unit, c1)?;
     if segment_size != 0 {
-        return HeadAnswer::Refused(Error::UnsupportedSegmentSize(segment_size));
+        return Err(Error::UnsupportedSegmentSize(segment_size));
     }
-    let format = length.format;
-    HeadAnswer::Got(
-        Head {
-            length: length.length,
-            format,
-            end: unit.len(),
-            address_size: address_size as u8,
-        },
-        c2,
-    )
+    let head = Head {
+        length: length.length,
+        format: length.format,
+        end: unit.len(),
+        address_size: address_size as u8,
+    };
+    Ok((head, c2))
 }
 
 // The fields at a place: 1 or 8 for the length, 1 where the unit passes the section's end; then, in the unit's bytes,
 // 1 or 5, 1 or 6, 1 or 7.
-pub fn read_head(section: &[u8], at: usize, endian: RunTimeEndian) -> HeadAnswer
-    ensures { told_head result ≡ head endian section.now at }
+pub fn read_head(section: &[u8], at: usize, endian: RunTimeEndian) -> Read<Head>
+    ensures { told result ≡ head endian section.now at }
 {
-    match section_bytes::reader::read_initial_length(section, at, endian) {
-        InitialLength::Refused(e) => HeadAnswer::Refused(e),
-        InitialLength::Got(length, c) => {
-            match section_bytes::reader::truncate(section, c, length.length) {
-                Num::Refused(e) => HeadAnswer::Refused(e),
-                Num::Got(end, _) => {
-                    let cut = end as usize;
-                    read_fields(&section[..cut], c, length, endian)
-                }
-            }
-        }
-    }
+    let (length, c) = section_bytes::reader::read_initial_length(section, at, endian)?;
+    let (end, _) = section_bytes::reader::truncate(section, c, length.length)?;
+    read_fields(&section[..end as usize], c, length, endian)
 }

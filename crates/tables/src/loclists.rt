@@ -1,20 +1,15 @@
 // Offsets of location lists by index.
+#![tactic(auto, using(section_bytes::proofs::ReaderLaws::reading))]
+
 ghost use Rattle.std.specs.Prelude.{◌≡◌};
 ghost use Rattle.tables.specs.Lists.{default_base};
 ghost use Rattle.tables.specs.Row.{told_location_offset, location_offset, location_base};
 
-use super::row::OffsetAnswer;
 use section_bytes::common::{
     DebugLocListsBase, DebugLocListsIndex, DwarfFileType, Encoding, LocationListsOffset,
 };
 use section_bytes::endianity::RunTimeEndian;
 use section_bytes::error::Error;
-
-#[derive(Clone, Copy)]
-pub enum LocationOffsetAnswer {
-    Offset(LocationListsOffset),
-    Refused(Error),
-}
 
 // The offset of the list with an index: 1 for the base, 9 for the product, 1 for the row, 9 for the sum.
 pub fn get_offset(
@@ -23,14 +18,11 @@ pub fn get_offset(
     base: DebugLocListsBase,
     index: DebugLocListsIndex,
     endian: RunTimeEndian,
-) -> LocationOffsetAnswer
+) -> Result<LocationListsOffset, Error>
     ensures { told_location_offset result ≡ location_offset endian encoding.format base index debug_loclists.now }
 {
-    let format = encoding.format;
-    match super::row::offset_at(debug_loclists, format, base.0, index.0, endian) {
-        OffsetAnswer::Offset(x) => LocationOffsetAnswer::Offset(LocationListsOffset(x)),
-        OffsetAnswer::Refused(e) => LocationOffsetAnswer::Refused(e),
-    }
+    let offset = super::row::offset_at(debug_loclists, encoding.format, base.0, index.0, endian)?;
+    Ok(LocationListsOffset(offset))
 }
 
 // Where the offset table begins when no attribute says so.

@@ -1,20 +1,15 @@
 // Offsets of range lists by index.
+#![tactic(auto, using(section_bytes::proofs::ReaderLaws::reading))]
+
 ghost use Rattle.std.specs.Prelude.{◌≡◌};
 ghost use Rattle.tables.specs.Lists.{default_base};
 ghost use Rattle.tables.specs.Row.{told_range_offset, range_offset, range_base};
 
-use super::row::OffsetAnswer;
 use section_bytes::common::{
     DebugRngListsBase, DebugRngListsIndex, DwarfFileType, Encoding, RangeListsOffset,
 };
 use section_bytes::endianity::RunTimeEndian;
 use section_bytes::error::Error;
-
-#[derive(Clone, Copy)]
-pub enum RangeOffsetAnswer {
-    Offset(RangeListsOffset),
-    Refused(Error),
-}
 
 // The offset of the list with an index: 1 for the base, 9 for the product, 1 for the row, 9 for the sum.
 pub fn get_offset(
@@ -23,14 +18,11 @@ pub fn get_offset(
     base: DebugRngListsBase,
     index: DebugRngListsIndex,
     endian: RunTimeEndian,
-) -> RangeOffsetAnswer
+) -> Result<RangeListsOffset, Error>
     ensures { told_range_offset result ≡ range_offset endian encoding.format base index debug_rnglists.now }
 {
-    let format = encoding.format;
-    match super::row::offset_at(debug_rnglists, format, base.0, index.0, endian) {
-        OffsetAnswer::Offset(x) => RangeOffsetAnswer::Offset(RangeListsOffset(x)),
-        OffsetAnswer::Refused(e) => RangeOffsetAnswer::Refused(e),
-    }
+    let offset = super::row::offset_at(debug_rnglists, encoding.format, base.0, index.0, endian)?;
+    Ok(RangeListsOffset(offset))
 }
 
 // Where the offset table begins when no attribute says so.

@@ -1,12 +1,13 @@
 // A row of a table that is reached by a base and an index.
+#![tactic(auto, using(section_bytes::proofs::ReaderLaws::reading), unfolding(crate::specs::Row::row_at, crate::specs::Row::offset_at))]
+
 ghost use Rattle.std.specs.Prelude.{◌≡◌, ◌*◌, ◌^◌, leb};
-ghost use Rattle.section_bytes.specs.Error.{told_place};
-ghost use Rattle.tables.specs.Row.{row_at, told_offset, offset_at};
+ghost use Rattle.section_bytes.specs.Error.{told_place, told_value};
+ghost use Rattle.tables.specs.Row.{row_at, offset_at};
 
 use section_bytes::common::Format;
 use section_bytes::endianity::RunTimeEndian;
 use section_bytes::error::Error;
-use section_bytes::{Num, Place};
 
 // Whether a product is not below 2^64. Up to 2^64 / 255 no index needs the division.
 fn too_large(index: u64, width: u8) -> bool
@@ -22,24 +23,14 @@ fn too_large(index: u64, width: u8) -> bool
 }
 
 // The place of a row: 1 for the base, 9 for the product, 1 for the row.
-pub(crate) fn row_at(section: &[u8], base: u64, index: u64, width: u8) -> Place
+pub(crate) fn row_at(section: &[u8], base: u64, index: u64, width: u8) -> Result<usize, Error>
     ensures { told_place result ≡ row_at base index width section.now }
 {
-    match section_bytes::reader::skip(section, 0, base) {
-        Place::Refused(e) => Place::Refused(e),
-        Place::At(b) => {
-            if too_large(index, width) {
-                return Place::Refused(Error::UnsupportedOffset);
-            }
-            section_bytes::reader::skip(section, b, index * (width as u64))
-        }
+    let first = section_bytes::reader::skip(section, 0, base)?;
+    if too_large(index, width) {
+        return Err(Error::UnsupportedOffset);
     }
-}
-
-#[derive(Clone, Copy)]
-pub enum OffsetAnswer {
-    Offset(u64),
-    Refused(Error),
+    section_bytes::reader::skip(section, first, index * (width as u64))
 }
 
 // The offset in a row of an offset table, counted from the section's start.
@@ -49,19 +40,13 @@ pub(crate) fn offset_at(
     base: u64,
     index: u64,
     endian: RunTimeEndian,
-) -> OffsetAnswer
-    ensures { told_offset result ≡ offset_at endian format base index section.now }
+) -> Result<u64, Error>
+    ensures { told_value result ≡ offset_at endian format base index section.now }
 {
-    match row_at(section, base, index, format.word_size()) {
-        Place::Refused(e) => OffsetAnswer::Refused(e),
-        Place::At(c) => match section_bytes::reader::read_offset(section, c, format, endian) {
-            Num::Refused(e) => OffsetAnswer::Refused(e),
-            Num::Got(x, _) => {
-                if u64::MAX - base < x {
-                    return OffsetAnswer::Refused(Error::UnsupportedOffset);
-                }
-                OffsetAnswer::Offset(base + x)
-            }
-        },
+    let row = row_at(section, base, index, format.word_size())?;
+    let (offset, _) = section_bytes::reader::read_offset(section, row, format, endian)?;
+    if u64::MAX - base < offset {
+        return Err(Error::UnsupportedOffset);
     }
+    Ok(base + offset)
 }

@@ -3,12 +3,14 @@
 // many entries were read, or the refusal of the call. Bytes, addresses and words are hexadecimal.
 #![tactic(auto)]
 
+use entries::Lists;
+use lists::Unit;
 use section_bytes::common::{
     DebugAddrBase, DwarfFileType, Encoding, Format, LocationListsOffset, RangeListsOffset,
 };
 use section_bytes::endianity::RunTimeEndian;
+use stacks::MOST;
 use stacks::answers::Rows;
-use stacks::{MOST, Reading};
 use std::io;
 
 const WORDS: usize = 6;
@@ -17,179 +19,171 @@ fn say(rt: &impl Print, text: &[u8]) -> io::Result<()> {
     rt.write_all(text)
 }
 
-fn put(rt: &impl Print, name: &[u8], x: u64) -> io::Result<()> {
+fn print_list(rt: &impl Print, name: &[u8], list: &[u8]) -> io::Result<()> {
     say(rt, name)?;
-    print!(rt; "{x:x}")
-}
-
-fn count(rt: &impl Print, name: &[u8], n: u64) -> io::Result<()> {
-    say(rt, name)?;
-    print!(rt; "{n}")
-}
-
-fn byte(rt: &impl Print, x: u8) -> io::Result<()> {
-    say(rt, b" ")?;
-    print!(rt; "{:02x}", x as u64)
-}
-
-fn print_list(rt: &impl Print, kind: &[u8], list: &[u8]) -> io::Result<()> {
-    say(rt, kind)?;
-    for x in list {
-        byte(rt, *x)?;
+    for &x in list {
+        print!(rt; " {x:02x}")?;
     }
     Ok(())
 }
 
 // What the first word of an answer says.
-fn result(rt: &impl Print, first: u64) -> io::Result<()> {
-    if first == 0 {
-        say(rt, b" found")
-    } else if first == 3 {
-        say(rt, b" not there")
-    } else if first % 0x1_0000_0000 == 4 {
-        count(rt, b" refused ", first / 0x1_0000_0000)
-    } else {
-        put(rt, b" left ", first)
+fn found(rt: &impl Print, first: u64) -> io::Result<()> {
+    match first {
+        0 => say(rt, b" found"),
+        3 => say(rt, b" not there"),
+        _ if first % 0x1_0000_0000 == 4 => print!(rt; " refused {}", first / 0x1_0000_0000),
+        _ => print!(rt; " left {first:x}"),
     }
-}
-
-fn print_words(rt: &impl Print, row: &[u64; WORDS]) -> io::Result<()> {
-    result(rt, row[0])?;
-    for i in 1..WORDS {
-        put(rt, b" ", row[i])?;
-    }
-    Ok(())
-}
-
-fn same(a: &[u64; WORDS], b: &[u64; WORDS]) -> bool {
-    for i in 0..WORDS {
-        if a[i] != b[i] {
-            return false;
-        }
-    }
-    true
 }
 
 // A place, with its address if it has one.
 fn place(rt: &impl Print, i: usize, addresses: &[u64], row: &[u64; WORDS]) -> io::Result<()> {
-    count(rt, b"; ", i as u64)?;
-    if i < addresses.len() {
-        put(rt, b": ", addresses[i])?;
+    print!(rt; "; {i}")?;
+    if let Some(&address) = addresses.get(i) {
+        print!(rt; ": {address:x}")?;
     }
-    print_words(rt, row)
+    found(rt, row[0])?;
+    for &word in &row[1..] {
+        print!(rt; " {word:x}")?;
+    }
+    Ok(())
 }
 
 fn places(rt: &impl Print, addresses: &[u64], rows: &Rows) -> io::Result<()> {
     place(rt, 0, addresses, &rows[0])?;
     for i in 1..MOST {
-        if !same(&rows[i - 1], &rows[i]) {
+        if rows[i] != rows[i - 1] {
             place(rt, i, addresses, &rows[i])?;
         }
     }
     Ok(())
 }
 
-fn print_read(rt: &impl Print, read: Reading) -> io::Result<()> {
-    match read {
-        Reading::Entries(n) => count(rt, b"; read ", n)?,
-        Reading::Refused(e) => count(rt, b"; refused ", e.number())?,
-    }
-    say(rt, b"\n")
-}
-
-fn encoding(version: u16, address_size: u8) -> Encoding {
-    Encoding {
-        address_size,
-        format: Format::Dwarf32,
-        version,
-    }
-}
-
-// What stands at the places before.
-fn before() -> Rows {
-    [[1, 2, 3, 4, 5, 6]; MOST]
-}
-
 // The table has two addresses, 10 and 20, behind its header.
-fn ranges(
+fn unit(version: u16, address_size: u8) -> Unit<'static> {
+    Unit {
+        encoding: Encoding {
+            address_size,
+            format: Format::Dwarf32,
+            version,
+        },
+        endian: RunTimeEndian::Little,
+        debug_addr: b"\x0c\0\0\0\x05\0\x04\0\x10\0\0\0\x20\0\0\0",
+        debug_addr_base: DebugAddrBase(8),
+    }
+}
+
+fn look_up(
     rt: &impl Print,
-    kind: &[u8],
-    p: Encoding,
+    name: &[u8],
+    unit: &Unit,
+    lists: &Lists,
     offset: u64,
     list: &[u8],
     addresses: &[u64],
 ) -> io::Result<()> {
-    print_list(rt, kind, list)?;
-    let mut rows = before();
-    let read = stacks::lookup_ranges(
-        list,
-        b"\x0c\0\0\0\x05\0\x04\0\x10\0\0\0\x20\0\0\0",
-        DebugAddrBase(8),
-        RangeListsOffset(offset),
-        0,
-        p,
-        RunTimeEndian::Little,
-        addresses,
-        &mut rows,
-    );
+    print_list(rt, name, list)?;
+    // What stands at the places before.
+    let mut rows = [[1, 2, 3, 4, 5, 6]; MOST];
+    let read = match *lists {
+        Lists::Ranges(None) => stacks::lookup_ranges(
+            list,
+            unit,
+            RangeListsOffset(offset),
+            0,
+            addresses,
+            &mut rows,
+        ),
+        Lists::Ranges(Some(kinds)) => stacks::lookup_ranges_by(
+            list,
+            unit,
+            RangeListsOffset(offset),
+            0,
+            kinds,
+            addresses,
+            &mut rows,
+        ),
+        Lists::Locations(file_type) => stacks::lookup_locations(
+            list,
+            unit,
+            LocationListsOffset(offset),
+            0,
+            file_type,
+            addresses,
+            &mut rows,
+        ),
+    };
     places(rt, addresses, &rows)?;
-    print_read(rt, read)
+    match read {
+        Ok(n) => print!(rt; "; read {n}")?,
+        Err(e) => print!(rt; "; refused {}", e.number())?,
+    }
+    say(rt, b"\n")
 }
 
-fn locations(
+fn ranges(
     rt: &impl Print,
-    kind: &[u8],
-    p: Encoding,
-    file_type: DwarfFileType,
+    name: &[u8],
+    unit: &Unit,
+    offset: u64,
     list: &[u8],
     addresses: &[u64],
 ) -> io::Result<()> {
-    print_list(rt, kind, list)?;
-    let mut rows = before();
-    let read = stacks::lookup_locations(
+    look_up(
+        rt,
+        name,
+        unit,
+        &Lists::Ranges(None),
+        offset,
         list,
-        b"\x0c\0\0\0\x05\0\x04\0\x10\0\0\0\x20\0\0\0",
-        DebugAddrBase(8),
-        LocationListsOffset(0),
-        0,
-        p,
-        RunTimeEndian::Little,
-        file_type,
         addresses,
-        &mut rows,
-    );
-    places(rt, addresses, &rows)?;
-    print_read(rt, read)
+    )
+}
+
+fn plain(rt: &impl Print, list: &[u8], addresses: &[u64]) -> io::Result<()> {
+    ranges(rt, b"ranges:", &unit(5, 4), 0, list, addresses)
 }
 
 // By the eight codes the other way round, kind 7 first.
 fn by_table(rt: &impl Print, list: &[u8], addresses: &[u64]) -> io::Result<()> {
-    print_list(rt, b"ranges by a table:", list)?;
-    let p = encoding(5, 4);
-    let mut rows = before();
-    let read = stacks::lookup_ranges_by(
-        list,
-        list,
-        DebugAddrBase(0),
-        RangeListsOffset(0),
-        0,
-        p,
-        RunTimeEndian::Little,
-        b"\x07\x06\x05\x04\x03\x02\x01\0",
-        addresses,
-        &mut rows,
-    );
-    places(rt, addresses, &rows)?;
-    print_read(rt, read)
+    let unit = Unit {
+        debug_addr: list,
+        debug_addr_base: DebugAddrBase(0),
+        ..unit(5, 4)
+    };
+    let lists = Lists::Ranges(Some(b"\x07\x06\x05\x04\x03\x02\x01\0"));
+    look_up(rt, b"ranges by a table:", &unit, &lists, 0, list, addresses)
 }
 
-fn plain(rt: &impl Print, list: &[u8], addresses: &[u64]) -> io::Result<()> {
-    ranges(rt, b"ranges:", encoding(5, 4), 0, list, addresses)
+fn locations(
+    rt: &impl Print,
+    name: &[u8],
+    unit: &Unit,
+    file_type: DwarfFileType,
+    list: &[u8],
+    addresses: &[u64],
+) -> io::Result<()> {
+    look_up(
+        rt,
+        name,
+        unit,
+        &Lists::Locations(file_type),
+        0,
+        list,
+        addresses,
+    )
 }
 
 fn located(rt: &impl Print, list: &[u8], addresses: &[u64]) -> io::Result<()> {
-    let p = encoding(5, 4);
-    locations(rt, b"locations:", p, DwarfFileType::Main, list, addresses)
+    locations(
+        rt,
+        b"locations:",
+        &unit(5, 4),
+        DwarfFileType::Main,
+        list,
+        addresses,
+    )
 }
 
 // 10 to 20, 30 to 40, and a kind that there is not.
@@ -221,14 +215,14 @@ fn many(rt: &impl Print) -> io::Result<()> {
 }
 
 fn of_size_5(rt: &impl Print, addresses: &[u64]) -> io::Result<()> {
-    ranges(rt, b"ranges, size 5:", encoding(5, 5), 0, b"\0", addresses)
+    ranges(rt, b"ranges, size 5:", &unit(5, 5), 0, b"\0", addresses)
 }
 
 // Lists that are not opened.
 fn unopened(rt: &impl Print) -> io::Result<()> {
     of_size_5(rt, &[1])?;
     of_size_5(rt, &[])?;
-    ranges(rt, b"ranges, from 2 on:", encoding(5, 4), 2, b"\0", &[1, 2])
+    ranges(rt, b"ranges, from 2 on:", &unit(5, 4), 2, b"\0", &[1, 2])
 }
 
 // A list of the end mark alone, and one without it.
@@ -306,7 +300,7 @@ fn sizes(rt: &impl Print) -> io::Result<()> {
     ranges(
         rt,
         b"ranges, version 4, size 2:",
-        encoding(4, 2),
+        &unit(4, 2),
         0,
         b"\x10\0\x20\0\xff\xff\0\x10\x10\0\x20\0\0\0\0\0",
         &[0x10, 0x20, 0x1010, 0x1020],
@@ -314,7 +308,7 @@ fn sizes(rt: &impl Print) -> io::Result<()> {
     ranges(
         rt,
         b"ranges, size 3:",
-        encoding(5, 3),
+        &unit(5, 3),
         0,
         b"\x06\x01\x02\x03\x04\x05\x06\0",
         &[0x30200, 0x30201, 0x60503, 0x60504],
@@ -326,7 +320,7 @@ fn other_locations(rt: &impl Print) -> io::Result<()> {
     locations(
         rt,
         b"locations, size 8:",
-        encoding(5, 8),
+        &unit(5, 8),
         DwarfFileType::Main,
         b"\x05\x01\x50\x07\0\0\0\0\0\0\0\0\xff\xff\xff\xff\xff\xff\xff\xff\x01\x51\0",
         &[0, 0xffff_ffff_ffff_fffe, 0xffff_ffff_ffff_ffff],
@@ -334,7 +328,7 @@ fn other_locations(rt: &impl Print) -> io::Result<()> {
     locations(
         rt,
         b"locations, split, version 4:",
-        encoding(4, 4),
+        &unit(4, 4),
         DwarfFileType::Dwo,
         b"\x05\x01\0\x50\x03\0\x08\0\0\0\x01\0\x51\0",
         &[0xf, 0x10, 0x18],

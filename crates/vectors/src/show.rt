@@ -1,255 +1,186 @@
 // A line for each answer.
-use entries::{Expression, RawLocListEntry, RawLocationStep, RawRangeStep, RawRngListEntry};
-use section_bytes::common::{Encoding, Format};
+use entries::{Expression, Noted, RawLocListEntry, RawRngListEntry};
+use section_bytes::common::Format;
 use section_bytes::error::Error;
-use section_bytes::{InitialLength, Num, Place, Split};
-use std::io;
-use tables::addr::{AddrHeaderAnswer, AddressAnswer, NextEntry, NextHeader};
-use tables::lists::ListsAnswer;
-use tables::loclists::LocationOffsetAnswer;
-use tables::rnglists::RangeOffsetAnswer;
+use section_bytes::{Read, Span, UnitLength};
+use std::{fmt, io};
+use tables::addr::{AddrEntryIter, AddrHeader, AddrHeaderIter};
+use tables::lists::ListsHeader;
 
-pub(crate) fn say(rt: &impl Print, text: &[u8]) -> io::Result<()> {
-    rt.write_all(text)
-}
+// A raw entry with the place after it, or none at the end.
+type Step<E> = Result<Option<(Noted<E>, usize)>, Error>;
 
-pub(crate) fn put(rt: &impl Print, n: u64) -> io::Result<()> {
-    say(rt, b" ")?;
-    print!(rt; "{n}")
-}
-
-pub(crate) fn end_line(rt: &impl Print) -> io::Result<()> {
-    say(rt, b"\n")
-}
-
-fn field(rt: &impl Print, name: &[u8], n: u64) -> io::Result<()> {
-    say(rt, name)?;
-    put(rt, n)
-}
-
-pub(crate) fn refused(rt: &impl Print, e: Error) -> io::Result<()> {
-    field(rt, b" refused", e.number())?;
+// The refusal's number, and its value where it has one.
+fn refused(rt: &impl Print, label: &str, e: Error) -> io::Result<()> {
+    let number = e.number();
     match e {
-        Error::UnknownRangeListsEntry(v) => put(rt, v),
-        Error::UnknownLocListsEntry(v) => put(rt, v),
-        Error::UnknownVersion(v) => put(rt, v),
-        Error::UnsupportedAddressSize(v) => put(rt, v),
-        Error::UnsupportedSegmentSize(v) => put(rt, v),
-        Error::UnknownReservedLength(v) => put(rt, v),
-        _ => Ok(()),
-    }
-}
-
-fn next(rt: &impl Print, c: usize) -> io::Result<()> {
-    field(rt, b" next", c as u64)
-}
-
-pub(crate) fn num(rt: &impl Print, label: &[u8], r: Num) -> io::Result<()> {
-    say(rt, label)?;
-    match r {
-        Num::Got(v, c) => {
-            put(rt, v)?;
-            next(rt, c)?;
+        Error::UnknownRangeListsEntry(value)
+        | Error::UnknownLocListsEntry(value)
+        | Error::UnknownVersion(value)
+        | Error::UnsupportedAddressSize(value)
+        | Error::UnsupportedSegmentSize(value)
+        | Error::UnknownReservedLength(value) => {
+            println!(rt; "{label} refused {number} {value}")
         }
-        Num::Refused(e) => refused(rt, e)?,
+        _ => println!(rt; "{label} refused {number}"),
     }
-    end_line(rt)
 }
 
-pub(crate) fn value(rt: &impl Print, label: &[u8], n: u64) -> io::Result<()> {
-    say(rt, label)?;
-    put(rt, n)?;
-    end_line(rt)
+pub(crate) fn number(rt: &impl Print, label: &str, n: u64) -> io::Result<()> {
+    println!(rt; "{label} {n}")
 }
 
-pub(crate) fn place(rt: &impl Print, label: &[u8], r: Place) -> io::Result<()> {
-    say(rt, label)?;
-    match r {
-        Place::At(c) => put(rt, c as u64)?,
-        Place::Refused(e) => refused(rt, e)?,
-    }
-    end_line(rt)
-}
-
-pub(crate) fn split(rt: &impl Print, label: &[u8], r: Split) -> io::Result<()> {
-    say(rt, label)?;
-    match r {
-        Split::Got(x, c) => {
-            put(rt, x.offset as u64)?;
-            put(rt, x.len as u64)?;
-            next(rt, c)?;
-        }
-        Split::Refused(e) => refused(rt, e)?,
-    }
-    end_line(rt)
-}
-
-pub(crate) fn initial_length(rt: &impl Print, label: &[u8], r: InitialLength) -> io::Result<()> {
-    say(rt, label)?;
-    match r {
-        InitialLength::Got(u, c) => {
-            put(rt, u.length)?;
-            next(rt, c)?;
-        }
-        InitialLength::Refused(e) => refused(rt, e)?,
-    }
-    end_line(rt)
-}
-
-pub(crate) fn lists(rt: &impl Print, label: &[u8], r: ListsAnswer) -> io::Result<()> {
-    say(rt, label)?;
-    match r {
-        ListsAnswer::Header(h, rest) => {
-            let encoding = h.encoding;
-            field(rt, b" size", encoding.address_size as u64)?;
-            field(rt, b" count", h.offset_entry_count)?;
-            field(rt, b" rest", rest.offset as u64)?;
-            put(rt, rest.len as u64)?;
-        }
-        ListsAnswer::Refused(e) => refused(rt, e)?,
-    }
-    end_line(rt)
-}
-
-pub(crate) fn address(rt: &impl Print, label: &[u8], r: AddressAnswer) -> io::Result<()> {
-    say(rt, label)?;
-    match r {
-        AddressAnswer::Address(a) => put(rt, a)?,
-        AddressAnswer::Refused(e) => refused(rt, e)?,
-    }
-    end_line(rt)
-}
-
-pub(crate) fn range_offset(rt: &impl Print, label: &[u8], r: RangeOffsetAnswer) -> io::Result<()> {
-    say(rt, label)?;
-    match r {
-        RangeOffsetAnswer::Offset(x) => put(rt, x.0)?,
-        RangeOffsetAnswer::Refused(e) => refused(rt, e)?,
-    }
-    end_line(rt)
-}
-
-pub(crate) fn location_offset(
+pub(crate) fn value<T: fmt::Display + Drop>(
     rt: &impl Print,
-    label: &[u8],
-    r: LocationOffsetAnswer,
+    label: &str,
+    answer: Result<T, Error>,
 ) -> io::Result<()> {
-    say(rt, label)?;
-    match r {
-        LocationOffsetAnswer::Offset(x) => put(rt, x.0)?,
-        LocationOffsetAnswer::Refused(e) => refused(rt, e)?,
+    match answer {
+        Ok(x) => println!(rt; "{label} {x}"),
+        Err(e) => refused(rt, label, e),
     }
-    end_line(rt)
 }
 
-fn bits(encoding: Encoding) -> u64 {
-    let format = encoding.format;
+pub(crate) fn read(rt: &impl Print, label: &str, answer: Read<u64>) -> io::Result<()> {
+    match answer {
+        Ok((x, after)) => println!(rt; "{label} {x} next {after}"),
+        Err(e) => refused(rt, label, e),
+    }
+}
+
+pub(crate) fn split(rt: &impl Print, label: &str, answer: Read<Span>) -> io::Result<()> {
+    match answer {
+        Ok((Span { offset, len }, after)) => println!(rt; "{label} {offset} {len} next {after}"),
+        Err(e) => refused(rt, label, e),
+    }
+}
+
+pub(crate) fn initial_length(
+    rt: &impl Print,
+    label: &str,
+    answer: Read<UnitLength>,
+) -> io::Result<()> {
+    read(rt, label, answer.map(|(unit, after)| (unit.length, after)))
+}
+
+pub(crate) fn lists(
+    rt: &impl Print,
+    label: &str,
+    answer: Result<(ListsHeader, Span), Error>,
+) -> io::Result<()> {
+    match answer {
+        Ok((header, Span { offset, len })) => {
+            let size = header.encoding.address_size;
+            let count = header.offset_entry_count;
+            println!(rt; "{label} size {size} count {count} rest {offset} {len}")
+        }
+        Err(e) => refused(rt, label, e),
+    }
+}
+
+fn bits(format: Format) -> u64 {
     match format {
         Format::Dwarf32 => 32,
         Format::Dwarf64 => 64,
     }
 }
 
-pub(crate) fn table_header(rt: &impl Print, label: &[u8], r: AddrHeaderAnswer) -> io::Result<()> {
-    say(rt, label)?;
-    match r {
-        AddrHeaderAnswer::Header(h, c) => {
-            let offset = h.offset;
-            let encoding = h.encoding;
-            let entries = h.entries;
-            field(rt, b" offset", offset.0)?;
-            field(rt, b" length", h.length)?;
-            field(rt, b" format", bits(encoding))?;
-            field(rt, b" size", encoding.address_size as u64)?;
-            field(rt, b" entries", entries.offset as u64)?;
-            put(rt, entries.len as u64)?;
-            next(rt, c)?;
+pub(crate) fn table_header(
+    rt: &impl Print,
+    label: &str,
+    answer: Read<AddrHeader>,
+) -> io::Result<()> {
+    match answer {
+        Ok((header, after)) => {
+            let start = header.offset.0;
+            let length = header.length;
+            let bits = bits(header.encoding.format);
+            let size = header.encoding.address_size;
+            let Span { offset, len } = header.entries;
+            print!(rt; "{label} offset {start} length {length} format {bits} size {size}")?;
+            println!(rt; " entries {offset} {len} next {after}")
         }
-        AddrHeaderAnswer::Refused(e) => refused(rt, e)?,
-    }
-    end_line(rt)
-}
-
-pub(crate) fn next_header(rt: &impl Print, label: &[u8], r: NextHeader) -> io::Result<()> {
-    say(rt, label)?;
-    match r {
-        NextHeader::Header(_, w) => next(rt, w.at)?,
-        NextHeader::End(w) => {
-            field(rt, b" end", w.at as u64)?;
-        }
-        NextHeader::Refused(e, _) => refused(rt, e)?,
-    }
-    end_line(rt)
-}
-
-pub(crate) fn next_entry(rt: &impl Print, label: &[u8], r: NextEntry) -> io::Result<()> {
-    say(rt, label)?;
-    match r {
-        NextEntry::Address(a, _) => put(rt, a)?,
-        NextEntry::End(w) => {
-            let entries = w.entries;
-            field(rt, b" end", entries.offset as u64)?;
-            put(rt, entries.len as u64)?;
-        }
-        NextEntry::Refused(e, _) => refused(rt, e)?,
-    }
-    end_line(rt)
-}
-
-fn range_entry(rt: &impl Print, x: RawRngListEntry) -> io::Result<()> {
-    match x {
-        RawRngListEntry::BaseAddress(a) => { field(rt, b" base", a) }
-        RawRngListEntry::AddressOrOffsetPair(b, e) => {
-            put(rt, b)?;
-            put(rt, e)
-        }
-        RawRngListEntry::StartEnd(b, e) => {
-            field(rt, b" start", b)?;
-            field(rt, b" end", e)
-        }
-        _ => say(rt, b" of another kind"),
+        Err(e) => refused(rt, label, e),
     }
 }
 
-pub(crate) fn range(rt: &impl Print, label: &[u8], r: RawRangeStep) -> io::Result<()> {
-    say(rt, label)?;
-    match r {
-        RawRangeStep::Entry(x, _, c) => {
-            range_entry(rt, x)?;
-            next(rt, c)?;
-        }
-        RawRangeStep::End => say(rt, b" end")?,
-        RawRangeStep::Refused(e) => refused(rt, e)?,
-    }
-    end_line(rt)
-}
-
-fn expression(rt: &impl Print, x: Expression) -> io::Result<()> {
-    field(rt, b" expression", x.offset as u64)?;
-    put(rt, x.len as u64)
-}
-
-fn location_entry(rt: &impl Print, x: RawLocListEntry) -> io::Result<()> {
-    match x {
-        RawLocListEntry::DefaultLocation(d) => expression(rt, d),
-        RawLocListEntry::StartxLength(i, n, d) => {
-            field(rt, b" index", i.0)?;
-            field(rt, b" length", n)?;
-            expression(rt, d)
-        }
-        _ => say(rt, b" of another kind"),
+pub(crate) fn next_header(
+    rt: &impl Print,
+    label: &str,
+    answer: Result<Option<AddrHeader>, Error>,
+    walk: AddrHeaderIter,
+) -> io::Result<()> {
+    match answer {
+        Ok(Some(_)) => println!(rt; "{label} next {}", walk.at),
+        Ok(None) => println!(rt; "{label} end {}", walk.at),
+        Err(e) => refused(rt, label, e),
     }
 }
 
-pub(crate) fn location(rt: &impl Print, label: &[u8], r: RawLocationStep) -> io::Result<()> {
-    say(rt, label)?;
-    match r {
-        RawLocationStep::Entry(x, _, c) => {
-            location_entry(rt, x)?;
-            next(rt, c)?;
+pub(crate) fn next_entry(
+    rt: &impl Print,
+    label: &str,
+    answer: Result<Option<u64>, Error>,
+    walk: AddrEntryIter,
+) -> io::Result<()> {
+    match answer {
+        Ok(Some(address)) => println!(rt; "{label} {address}"),
+        Ok(None) => {
+            let Span { offset, len } = walk.entries;
+            println!(rt; "{label} end {offset} {len}")
         }
-        RawLocationStep::End => say(rt, b" end")?,
-        RawLocationStep::Refused(e) => refused(rt, e)?,
+        Err(e) => refused(rt, label, e),
     }
-    end_line(rt)
+}
+
+fn range_entry(rt: &impl Print, entry: RawRngListEntry) -> io::Result<()> {
+    match entry {
+        RawRngListEntry::BaseAddress(a) => print!(rt; " base {a}"),
+        RawRngListEntry::AddressOrOffsetPair(b, e) => print!(rt; " {b} {e}"),
+        RawRngListEntry::StartEnd(b, e) => print!(rt; " start {b} end {e}"),
+        _ => print!(rt; " of another kind"),
+    }
+}
+
+pub(crate) fn range(rt: &impl Print, label: &str, answer: Step<RawRngListEntry>) -> io::Result<()> {
+    match answer {
+        Ok(Some((noted, after))) => {
+            print!(rt; "{label}")?;
+            range_entry(rt, noted.entry)?;
+            println!(rt; " next {after}")
+        }
+        Ok(None) => println!(rt; "{label} end"),
+        Err(e) => refused(rt, label, e),
+    }
+}
+
+fn location_entry(rt: &impl Print, entry: RawLocListEntry) -> io::Result<()> {
+    match entry {
+        RawLocListEntry::DefaultLocation(Expression { offset, len }) => {
+            print!(rt; " expression {offset} {len}")
+        }
+        RawLocListEntry::StartxLength(index, length, Expression { offset, len }) => {
+            print!(rt;
+                " index {} length {length} expression {offset} {len}",
+                index.0
+            )
+        }
+        _ => print!(rt; " of another kind"),
+    }
+}
+
+pub(crate) fn location(
+    rt: &impl Print,
+    label: &str,
+    answer: Step<RawLocListEntry>,
+) -> io::Result<()> {
+    match answer {
+        Ok(Some((noted, after))) => {
+            print!(rt; "{label}")?;
+            location_entry(rt, noted.entry)?;
+            println!(rt; " next {after}")
+        }
+        Ok(None) => println!(rt; "{label} end"),
+        Err(e) => refused(rt, label, e),
+    }
 }

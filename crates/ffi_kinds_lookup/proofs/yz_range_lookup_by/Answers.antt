@@ -2,4 +2,4 @@
 use Rattle.ffi_kinds_lookup.proofs.yz_range_lookup_by.Goals as goal
 
 pub returns : goal.returns
-returns c = rw (c.range_found.ensures, c.lookup_range_by-r.ensures, c.endian_in-endian.ensures, c.encoding_of-unit.ensures)
+returns c = rw (c.range_found.ensures, c.lookup_range_by-r.ensures, c.unit_of-unit.ensures)

@@ -7,4 +7,4 @@ use Rattle.ffi_words.specs.Ranges.{range_next}
 use Rattle.ffi_kinds_walk.proofs.yz_range_next_by.Goals as goal
 
 pub returns : goal.returns
-returns c = rw (c.range_next.ensures, c.next_by-r.ensures, c.endian_in-endian.ensures, c.encoding_of-unit.ensures, c.start_in-start.ensures) (let a = c.args in ap (range_next a.walk.now) (range_raised_by (encoding_of a.encoding) (endian_in a.encoding) a.section.now a.debug_addr.now (record { 0 = a.debug_addr_base }) (walk_in a.walk.now) a.kinds.now))
+returns c = rw (c.range_next.ensures, c.next_by-r.ensures, c.unit_of-unit.ensures, c.start_in-start.ensures) (let a = c.args in ap (range_next a.walk.now) (range_raised_by (encoding_of a.encoding) (endian_in a.encoding) a.section.now a.debug_addr.now (record { 0 = a.debug_addr_base }) (walk_in a.walk.now) a.kinds.now))

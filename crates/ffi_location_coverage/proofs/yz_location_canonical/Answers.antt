@@ -6,4 +6,4 @@ use Rattle.ffi_location_coverage.proofs.yz_location_canonical.Goals as goal
 pub returns : goal.returns
 returns c =
     output_left_lem _ c.count_written.ensures
-    (rw (c.file_of-file.ensures, file_split, c.endian_in-endian.ensures, c.encoding_of-unit.ensures) at c.canonical_locations-r.ensures)
+    (rw (c.file_of-file.ensures, file_split, c.unit_of-unit.ensures) at c.canonical_locations-r.ensures)

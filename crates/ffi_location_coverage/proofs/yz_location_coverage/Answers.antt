@@ -5,5 +5,5 @@ use Rattle.ffi_location_coverage.proofs.yz_location_coverage.Goals as goal
 
 pub returns : goal.returns
 returns c =
-    placed_told_lem _ c.count_placed.ensures
-    (rw (c.file_of-file.ensures, file_split, c.endian_in-endian.ensures, c.encoding_of-unit.ensures) at c.place_locations-r.ensures)
+    placed_told_lem _ c.count_written.ensures
+    (rw (c.file_of-file.ensures, file_split, c.unit_of-unit.ensures) at c.place_locations-r.ensures)

@@ -3,4 +3,4 @@ use Rattle.ffi_words.proofs.WordLaws.{file_split}
 use Rattle.ffi_location_lookup.proofs.yz_location_lookup.Goals as goal
 
 pub returns : goal.returns
-returns c = rw (c.location_found.ensures, c.lookup_location-r.ensures, c.file_of-file.ensures, file_split, c.endian_in-endian.ensures, c.encoding_of-unit.ensures)
+returns c = rw (c.location_found.ensures, c.lookup_location-r.ensures, c.file_of-file.ensures, file_split, c.unit_of-unit.ensures)

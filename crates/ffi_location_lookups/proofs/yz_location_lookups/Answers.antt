@@ -5,4 +5,4 @@ use Rattle.ffi_words.proofs.WordLaws.{file_split}
 use Rattle.ffi_location_lookups.proofs.yz_location_lookups.Goals as goal
 
 pub returns : goal.returns
-returns c = rw c.count_read.ensures (ap counted_of c.lookup_locations-r.ensures ∙ rw (c.file_of-file.ensures, file_split, c.endian_in-endian.ensures, c.encoding_of-unit.ensures))
+returns c = rw c.count_read.ensures (ap counted_of c.lookup_locations-r.ensures ∙ rw (c.file_of-file.ensures, file_split, c.unit_of-unit.ensures))

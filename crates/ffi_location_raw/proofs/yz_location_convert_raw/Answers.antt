@@ -2,4 +2,4 @@
 use Rattle.ffi_location_raw.proofs.yz_location_convert_raw.Goals as goal
 
 pub returns : goal.returns
-returns c = rw (c.location_converted.ensures, c.convert-r.ensures, c.endian_in-endian.ensures, c.encoding_of-unit.ensures, c.walk_in-start.ensures)
+returns c = rw (c.location_converted.ensures, c.convert-r.ensures, c.unit_of-unit.ensures, c.walk_in-start.ensures)

@@ -8,4 +8,4 @@ use Rattle.ffi_words.specs.Locations.{location_next}
 use Rattle.ffi_location_walk.proofs.yz_location_next.Goals as goal
 
 pub returns : goal.returns
-returns c = rw (c.location_next.ensures, c.next-r.ensures, c.endian_in-endian.ensures, c.encoding_of-unit.ensures, c.file_in-file.ensures, file_split, c.start_in-start.ensures) (let a = c.args in ap (location_next a.walk.now) (location_raised (encoding_of a.encoding) (endian_in a.encoding) a.section.now a.debug_addr.now (record { 0 = a.debug_addr_base }) (walk_in a.walk.now) (split_in a.walk.now)))
+returns c = rw (c.location_next.ensures, c.next-r.ensures, c.unit_of-unit.ensures, c.file_in-file.ensures, file_split, c.start_in-start.ensures) (let a = c.args in ap (location_next a.walk.now) (location_raised (encoding_of a.encoding) (endian_in a.encoding) a.section.now a.debug_addr.now (record { 0 = a.debug_addr_base }) (walk_in a.walk.now) (split_in a.walk.now)))

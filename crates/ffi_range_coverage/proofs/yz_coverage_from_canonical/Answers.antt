@@ -3,4 +3,4 @@ use Rattle.ffi_words.proofs.CoverageLaws.{placed_told_lem}
 use Rattle.ffi_range_coverage.proofs.yz_coverage_from_canonical.Goals as goal
 
 pub returns : goal.returns
-returns c = placed_told_lem _ c.count_placed.ensures c.place_canonical-r.ensures
+returns c = placed_told_lem _ c.count_written.ensures c.place_canonical-r.ensures

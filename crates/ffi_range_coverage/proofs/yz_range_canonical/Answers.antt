@@ -5,4 +5,4 @@ use Rattle.ffi_range_coverage.proofs.yz_range_canonical.Goals as goal
 pub returns : goal.returns
 returns c =
     output_left_lem _ c.count_written.ensures
-    (rw (c.endian_in-endian.ensures, c.encoding_of-unit.ensures) at c.canonical_ranges-r.ensures)
+    (rw (c.unit_of-unit.ensures) at c.canonical_ranges-r.ensures)

@@ -4,5 +4,5 @@ use Rattle.ffi_range_coverage.proofs.yz_range_coverage.Goals as goal
 
 pub returns : goal.returns
 returns c =
-    placed_told_lem _ c.count_placed.ensures
-    (rw (c.endian_in-endian.ensures, c.encoding_of-unit.ensures) at c.place_ranges-r.ensures)
+    placed_told_lem _ c.count_written.ensures
+    (rw (c.unit_of-unit.ensures) at c.place_ranges-r.ensures)

@@ -4,6 +4,6 @@ use Rattle.ffi_range_coverage.proofs.yz_range_runs.Goals as goal
 
 pub returns : goal.returns
 returns c =
-    placed_told_lem _ c.count_placed.ensures
-    (rw (c.endian_in-endian.ensures, c.encoding_of-unit.ensures)
+    placed_told_lem _ c.count_written.ensures
+    (rw (c.unit_of-unit.ensures)
     at c.runs_of_ranges-r.ensures)

@@ -2,4 +2,4 @@
 use Rattle.ffi_range_raw.proofs.yz_range_convert_raw.Goals as goal
 
 pub returns : goal.returns
-returns c = rw (c.range_converted.ensures, c.convert-r.ensures, c.endian_in-endian.ensures, c.encoding_of-unit.ensures, c.walk_in-start.ensures)
+returns c = rw (c.range_converted.ensures, c.convert-r.ensures, c.unit_of-unit.ensures, c.walk_in-start.ensures)

@@ -1,31 +1,40 @@
 -- By the tests in their order; then what refuses the opening, or the list from where it opens. Assumes nothing.
 use Prim.Native.Nat.{ℕ, ◌-◌, ◌^◌, ◌≤◌}
 use native.Mathlib.Omega.{arith}
-use mathlib.Core.Path.{sym, ap, ◌∙◌}
+use mathlib.Core.Bool.{true}
+use mathlib.Core.Path.{◌≡◌, ap, ◌∙◌}
 use lib.ListN.{length}
-use Rattle.entries.specs.Numbers.{coding_of}
-use Rattle.lists.specs.Open.{told_opened}
+use Rattle.stacks.specs.Ascending.{ascends}
 use Rattle.stacks.specs.Places.{at}
-use Rattle.stacks.proofs.AskedLaws.{many, down, none, taken, stands, stands_taken, not_opened, is_opened}
+use Rattle.stacks.proofs.PlaceLaws.{sorted_is}
+use Rattle.stacks.proofs.AskedLaws.{down, taken, stands, stands_taken, not_opened, is_opened}
+use Rattle.stacks.proofs.lookup_in.Goals.{Else-not-is_sorted}
 use Rattle.stacks.proofs.lookup_in.Goals as goal
 
-pub returns-then-n-gt-MOST : goal.returns-then-n-gt-MOST
-returns-then-n-gt-MOST c = many _ _ _ _ c.if-n-gt-MOST.true
+-- the addresses ascend, and fit in 64 bits
+up : (c : Else-not-is_sorted) → ascends c.args.addresses.now ≡ true
+up c = sorted_is _ _ c.is_sorted.ensures.cases ∙ c.if-not-is_sorted.false
 
-pub returns-then-n-eq0 : goal.returns-then-n-eq0
-returns-then-n-eq0 c = none _ _ _ _ c.if-n-eq0.true
+small : (c : Else-not-is_sorted) → (i : ℕ) → at c.args.addresses.now i ≤ 2 ^ 64 - 1
+small c i = let z = c.type_inv.addresses i in omega arith
 
-pub found_from-read-requires : goal.found_from-read-requires
-found_from-read-requires c =
-    let a = c.args in let few = c.if-n-gt-MOST.false in let up = sym c.if-ascends.true ∙ c.ascends.ensures in let small : (i : ℕ) → at a.addresses.now i ≤ 2 ^ 64 - 1 = λ i. let z = c.type_inv.addresses i in omega arith in (stands_taken a.addresses.now _ c.padded-padded.ensures few up small, ap length (taken a.addresses.now _ c.padded-padded.ensures few), omega (arith, c.if-n-eq0.false))
+pub returns-then-not-is_sorted : goal.returns-then-not-is_sorted
+returns-then-not-is_sorted c = down _ _ _ _ c.if-n-gt-MOST.false (sorted_is _ _ c.is_sorted.ensures.cases ∙ c.if-not-is_sorted.true)
 
-pub returns-in-Refused : goal.returns-in-Refused
-returns-in-Refused c =
-    let a = c.args in let few = c.if-n-gt-MOST.false in let up = sym c.if-ascends.true ∙ c.ascends.ensures in let small : (i : ℕ) → at a.addresses.now i ≤ 2 ^ 64 - 1 = λ i. let z = c.type_inv.addresses i in omega arith in not_opened a.locations (coding_of a.split a.by_table a.kinds.now) a.encoding a.endian a.section.now a.debug_addr.now a.debug_addr_base a.offset.0 a.base_address a.addresses.now a.rows.now (sym c.ranges-then-ascends.ensures ∙ ap told_opened c.in-Refused.is) (stands a.addresses.now _ c.padded-padded.ensures few up small) (omega (arith, c.if-n-eq0.false)) up c.fill_all.ensures
+pub found_from-requires : goal.found_from-requires
+found_from-requires c =
+    let e = (goal.at.found_from-requires c).Else-not-is_sorted in
+    let few = c.if-n-gt-MOST.false in
+    (stands_taken _ _ c.padded-all.ensures few (up e) (small e), ap length (taken _ _ c.padded-all.ensures few), omega (arith, c.if-n-eq0.false))
 
-pub returns-in-List : goal.returns-in-List
-returns-in-List c =
-    let a = c.args in let few = c.if-n-gt-MOST.false in let up = sym c.if-ascends.true ∙ c.ascends.ensures in let small : (i : ℕ) → at a.addresses.now i ≤ 2 ^ 64 - 1 = λ i. let z = c.type_inv.addresses i in omega arith in is_opened a.locations (coding_of a.split a.by_table a.kinds.now) a.encoding a.endian a.section.now a.debug_addr.now a.debug_addr_base a.offset.0 a.base_address a.addresses.now a.rows.now _ (taken a.addresses.now _ c.padded-padded.ensures few) (sym c.ranges-then-ascends.ensures ∙ ap told_opened c.in-List.is) few up c.found_from-read.ensures.rows_after c.found_from-read.ensures.value
+pub returns-in-Ok : goal.returns-in-Ok
+returns-in-Ok c =
+    let e = (goal.at.returns-in-Ok c).Else-not-is_sorted in
+    let few = c.if-n-gt-MOST.false in
+    is_opened _ _ _ _ _ _ _ _ _ (taken _ _ c.padded-all.ensures few) c.in-Ok.ensures few (up e) c.found_from.ensures.rows_after c.found_from.ensures.value
 
-pub returns : goal.returns
-returns c = down _ _ _ _ c.if-n-gt-MOST.false (sym c.if-ascends.false ∙ c.ascends.ensures)
+pub returns-in-Err : goal.returns-in-Err
+returns-in-Err c =
+    let e = (goal.at.returns-in-Err c).Else-not-is_sorted in
+    let few = c.if-n-gt-MOST.false in
+    not_opened _ _ _ _ _ _ _ _ c.in-Err.ensures (stands _ _ c.padded-all.ensures few (up e) (small e)) (omega (arith, c.if-n-eq0.false)) (up e) c.fill_all.ensures

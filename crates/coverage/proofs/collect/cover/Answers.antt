@@ -1,58 +1,42 @@
 -- The list opens or its refusal is the answer; the runs of the ranges gathered from its walk are its coverage. Assumes nothing.
-use Rattle.coverage.proofs.GatherLaws.{cover_refused, gathered_few, cover_got, cover_full, cover_lost}
+use Rattle.std.proofs.Common.{sym, refl, ap, ◌∙◌, arith, length-take}
+use Rattle.section_bytes.proofs.ReaderLaws.{is_refusal}
 use Rattle.lists.proofs.OpenLaws.{opened_size}
-use Rattle.lists.specs.Open.{told_opened}
-use Rattle.coverage.specs.Kept.{paired, firsts}
-use Rattle.coverage.specs.Covered.{holding, source}
-use Rattle.std.proofs.Common.{◌-◌, length, sym, refl, ap, ◌∙◌, arith, length-take}
+use Rattle.coverage.specs.Kept.{paired}
+use Rattle.coverage.specs.Covered.{source_in}
+use Rattle.coverage.specs.Gathered.{told_gathered}
+use Rattle.coverage.proofs.GatherLaws.{cover_refused, gathered_few, cover_got, cover_full, cover_lost}
 use Rattle.coverage.proofs.collect.cover.Goals as goal
 
-pub gather-requires : goal.gather-requires
-gather-requires c = record {
-  address_size_value = opened_size _ _ _ _ (sym c.ranges-2.ensures ∙ ap told_opened c.in-List.is);
-  done_in_bounds = c.requires;
-}
+pub returns-in_err-start-clause-ends_after : goal.returns-in_err-start-clause-ends_after
+returns-in_err-start-clause-ends_after c =
+    ap (λ r. told_gathered r c.args.begins.now c.args.ends.now) (is_refusal _ _ c.from_residual.ensures.1)
+    ∙ cover_refused _ _ (source_in c.args.source.now) _ c.in_err-start.ensures
+
+pub gather-requires-clause-address_size_value : goal.gather-requires-clause-address_size_value
+gather-requires-clause-address_size_value c = opened_size _ _ _ _ (sym c.in_ok-start.ensures)
+
+pub returns-in_err-n-clause-ends_after : goal.returns-in_err-n-clause-ends_after
+returns-in_err-n-clause-ends_after c =
+    ap (λ r. told_gathered r c.gather.new.begins c.gather.new.ends) (is_refusal _ _ c.from_residual-in_err-n.ensures.1)
+    ∙ cover_lost _ _ _ c.args.source.now.unit _ _ (sym c.in_ok-start.ensures) c.args.source.now.lists _ c.in_err-n.ensures.ends_after
 
 pub to_runs-requires : goal.to_runs-requires
 to_runs-requires c =
     let a = c.args in
-    let p = c.requires in
-    let f = gathered_few (firsts a.done a.begins.now a.ends.now) (length a.begins.now - a.done) a.split a.by_table a.kinds.now a.encoding a.endian a.section.now a.offset a.base_address a.debug_addr.now a.debug_addr_base (sym c.ranges-2.ensures ∙ ap told_opened c.in-List.is) a.locations _ _ _ c.gather.ensures.ends_after c.in-All.is in
     let z = c.gather.ensures.sized in
-    (omega (arith, f, length-take a.done (paired a.begins.now a.ends.now), p.0, z.0), (refl, z.1 ∙ sym z.0))
+    let f = gathered_few _ _ _ a.source.now.unit _ _ (sym c.in_ok-start.ensures) a.source.now.lists _ _ (rw c.in-All.is at c.in_ok-n.ensures.ends_after) in
+    (omega (arith, f, length-take a.done (paired a.begins.now a.ends.now), c.requires.0, z.0), (refl, z.1 ∙ sym z.0))
 
-pub returns-in-Refused : goal.returns-in-Refused
-returns-in-Refused c =
+pub returns-in-All-clause-ends_after : goal.returns-in-All-clause-ends_after
+returns-in-All-clause-ends_after c =
     let a = c.args in
-    record {
-      ends_after = cover_refused (firsts a.done a.begins.now a.ends.now) (length a.begins.now - a.done) (source (holding a.locations a.split a.by_table a.kinds.now) a.encoding a.endian a.section.now a.offset a.base_address a.debug_addr.now a.debug_addr_base) c.in-Refused.e a.begins.now a.ends.now (sym c.ranges-2.ensures ∙ ap told_opened c.in-Refused.is);
-      sized = c.requires.2;
-    }
-
-pub returns-in-All : goal.returns-in-All
-returns-in-All c =
-    let a = c.args in
-    let p = c.requires in
     let z = c.gather.ensures.sized in
-    let f = gathered_few (firsts a.done a.begins.now a.ends.now) (length a.begins.now - a.done) a.split a.by_table a.kinds.now a.encoding a.endian a.section.now a.offset a.base_address a.debug_addr.now a.debug_addr_base (sym c.ranges-2.ensures ∙ ap told_opened c.in-List.is) a.locations _ _ _ c.gather.ensures.ends_after c.in-All.is in
+    let g = rw c.in-All.is at c.in_ok-n.ensures.ends_after in
+    let f = gathered_few _ _ _ a.source.now.unit _ _ (sym c.in_ok-start.ensures) a.source.now.lists _ _ g in
     let h = length-take a.done (paired a.begins.now a.ends.now) in
-    record {
-      ends_after = cover_got (firsts a.done a.begins.now a.ends.now) (length a.begins.now - a.done) a.split a.by_table a.kinds.now a.encoding a.endian a.section.now a.offset a.base_address a.debug_addr.now a.debug_addr_base (sym c.ranges-2.ensures ∙ ap told_opened c.in-List.is) a.locations _ _ _ c.gather.ensures.ends_after _ _ c.in-All.is (omega (arith, f, h, p.0, z.0), omega (arith, f, h, p.0, z.1)) c.to_runs.ensures;
-      sized = let r = c.to_runs.ensures.sized in (r.0 ∙ z.0, r.1 ∙ z.0);
-    }
+    cover_got _ _ _ a.source.now.unit _ _ (sym c.in_ok-start.ensures) a.source.now.lists _ _ _ _ g (omega (arith, f, h, c.requires.0, z.0), omega (arith, f, h, c.requires.0, z.1)) c.to_runs.ensures
 
-pub returns-in-Full : goal.returns-in-Full
-returns-in-Full c =
-    let a = c.args in
-    record {
-      ends_after = cover_full (firsts a.done a.begins.now a.ends.now) (length a.begins.now - a.done) a.split a.by_table a.kinds.now a.encoding a.endian a.section.now a.offset a.base_address a.debug_addr.now a.debug_addr_base (sym c.ranges-2.ensures ∙ ap told_opened c.in-List.is) a.locations _ _ _ c.gather.ensures.ends_after c.in-Full.is;
-      sized = c.gather.ensures.sized;
-    }
-
-pub returns-in-Refused-gather : goal.returns-in-Refused-gather
-returns-in-Refused-gather c =
-    let a = c.args in
-    record {
-      ends_after = cover_lost (firsts a.done a.begins.now a.ends.now) (length a.begins.now - a.done) a.split a.by_table a.kinds.now a.encoding a.endian a.section.now a.offset a.base_address a.debug_addr.now a.debug_addr_base (sym c.ranges-2.ensures ∙ ap told_opened c.in-List.is) a.locations _ _ _ c.gather.ensures.ends_after c.in-Refused-gather.e c.in-Refused-gather.is;
-      sized = c.gather.ensures.sized;
-    }
+pub returns-in-Full-clause-ends_after : goal.returns-in-Full-clause-ends_after
+returns-in-Full-clause-ends_after c =
+    cover_full _ _ _ c.args.source.now.unit _ _ (sym c.in_ok-start.ensures) c.args.source.now.lists (rw c.in-Full.is at c.in_ok-n.ensures.ends_after)

@@ -1,7 +1,6 @@
 -- The coverage was put into two arrays of zeros. Assumes nothing.
-use Rattle.std.proofs.Common.{◌∙◌}
-use Rattle.coverage.proofs.PlaceLaws.{placed_coverage}
+use Rattle.coverage.proofs.PlaceLaws.{made_got}
 use Rattle.coverage.proofs.collect.range_coverage.Goals as goal
 
 pub returns : goal.returns
-returns c = c.by_count.ensures ∙ placed_coverage _ c.place_ranges-collected.ensures
+returns c = made_got _ c.in_ok-n.ensures

@@ -1,39 +1,22 @@
 -- What the runs leave at the front of two arrays, cleared past their count, is the coverage. Assumes nothing.
-use Rattle.std.proofs.Common.{arith}
-use Rattle.coverage.specs.Covered.{holding, source}
-use Rattle.coverage.proofs.PlaceLaws.{whole_few, whole_got, whole_full, whole_refused}
+use Rattle.std.proofs.Common.{ap, ◌∙◌, arith}
+use Rattle.section_bytes.specs.Error.{told_value}
+use Rattle.section_bytes.proofs.ReaderLaws.{is_refusal}
+use Rattle.coverage.specs.Covered.{source_in}
+use Rattle.coverage.specs.Told.{placed}
+use Rattle.coverage.proofs.PlaceLaws.{whole_few, whole_got, whole_refused}
 use Rattle.coverage.proofs.place.place_list.Goals as goal
 
+pub returns-in_err-n : goal.returns-in_err-n
+returns-in_err-n c =
+    ap (λ r. placed (told_value r) c.runs_list.new.begins c.runs_list.new.ends) (is_refusal _ _ c.from_residual.ensures.1)
+    ∙ whole_refused _ _ (omega arith, omega arith) (source_in c.args.source.now) _ c.in_err-n.ensures
+
 pub clear_past-requires : goal.clear_past-requires
-clear_past-requires c =
-    let a = c.args in (
-      whole_few a.begins.now a.ends.now (omega arith, omega arith)
-          (source (holding a.locations a.split a.by_table a.kinds.now) a.encoding a.endian a.section.now a.offset.0 a.base_address a.debug_addr.now a.debug_addr_base) c.runs_list.ensures c.in-Got.is,
-      omega arith,
-    )
+clear_past-requires c = (whole_few c.args.begins.now c.args.ends.now (omega arith, omega arith) (source_in c.args.source.now) c.in_ok-n.ensures, omega arith)
 
-pub clear_past-requires-in-Got : goal.clear_past-requires-in-Got
-clear_past-requires-in-Got c =
-    let a = c.args in (
-      whole_few a.begins.now a.ends.now (omega arith, omega arith)
-          (source (holding a.locations a.split a.by_table a.kinds.now) a.encoding a.endian a.section.now a.offset.0 a.base_address a.debug_addr.now a.debug_addr_base) c.runs_list.ensures c.in-Got.is,
-      omega arith,
-    )
+pub clear_past-requires-2 : goal.clear_past-requires-2
+clear_past-requires-2 c = (whole_few c.args.begins.now c.args.ends.now (omega arith, omega arith) (source_in c.args.source.now) c.in_ok-n.ensures, omega arith)
 
-pub returns-in-Got : goal.returns-in-Got
-returns-in-Got c =
-    let a = c.args in
-    whole_got a.begins.now a.ends.now (omega arith, omega arith)
-    (source (holding a.locations a.split a.by_table a.kinds.now) a.encoding a.endian a.section.now a.offset.0 a.base_address a.debug_addr.now a.debug_addr_base) c.runs_list.ensures c.in-Got.is c.clear_past.ensures c.clear_past-in-Got.ensures
-
-pub returns-in-Full : goal.returns-in-Full
-returns-in-Full c =
-    let a = c.args in
-    whole_full a.begins.now a.ends.now (omega arith, omega arith)
-    (source (holding a.locations a.split a.by_table a.kinds.now) a.encoding a.endian a.section.now a.offset.0 a.base_address a.debug_addr.now a.debug_addr_base) c.runs_list.ensures c.in-Full.is
-
-pub returns-in-Refused : goal.returns-in-Refused
-returns-in-Refused c =
-    let a = c.args in
-    whole_refused a.begins.now a.ends.now (omega arith, omega arith)
-    (source (holding a.locations a.split a.by_table a.kinds.now) a.encoding a.endian a.section.now a.offset.0 a.base_address a.debug_addr.now a.debug_addr_base) c.runs_list.ensures c.in-Refused.e c.in-Refused.is
+pub returns : goal.returns
+returns c = whole_got _ _ (omega arith, omega arith) (source_in c.args.source.now) c.in_ok-n.ensures c.clear_past.ensures c.clear_past-2.ensures

@@ -1,25 +1,25 @@
 -- What was read took as many bytes as lie between the places. Assumes nothing.
-use mathlib.Core.Path.{sym, ap, ◌∙◌}
-use Rattle.entries.specs.Numbers.{coding_of}
-use Rattle.entries.specs.Listed.{step_in}
-use Rattle.entries.specs.Told.{told_location}
-use Rattle.entries.proofs.PaddedLaws.{step_padded, noted_found, noted_ended, noted_refused}
+use mathlib.Core.Path.{sym, ◌≡◌, ◌∙◌}
+use Rattle.entries.specs.Lists.{are_locations, coding_in}
+use Rattle.entries.specs.Listed.{read_in, entry_in}
+use Rattle.section_bytes.specs.Read.{gives}
+use Rattle.entries.specs.Told.{step_of, found}
+use Rattle.entries.proofs.PaddedLaws.{step_padded, noted_found}
+use Rattle.entries.proofs.padded.noted_entry.Goals.{In-Some}
 use Rattle.entries.proofs.padded.noted_entry.Goals as goal
 
-pub overflow_sub-c : goal.overflow_sub-c
-overflow_sub-c c =
+-- what was read is an entry
+there : (c : In-Some) → (let a = c.args in let l = are_locations a.lists.now in
+    gives (found (entry_in l c.in-Some.entry) c.in-Some.after) ≡ step_of (read_in l (coding_in a.lists.now) a.encoding a.endian a.section.now a.at))
+there c = rw c.in-Some.is at c.in_ok-entry.ensures
+
+pub overflow_sub-after : goal.overflow_sub-after
+overflow_sub-after c =
     let a = c.args in
-    (step_padded a.locations (coding_of a.split a.by_table a.kinds.now) a.encoding a.endian a.section.now a.at
-    (sym (ap (λ r. step_in a.locations (told_location r)) c.in-Entry.is) ∙ c.raw_entry.ensures)).0
+    (step_padded (are_locations a.lists.now) (coding_in a.lists.now) a.encoding a.endian a.section.now a.at (there c)).0
 
-pub returns-in-Entry : goal.returns-in-Entry
-returns-in-Entry c =
+pub returns : goal.returns
+returns c =
     let a = c.args in
-    let h = sym (ap (λ r. step_in a.locations (told_location r)) c.in-Entry.is) ∙ c.raw_entry.ensures in
-    noted_found _ h (c.longer.ensures ∙ sym (step_padded a.locations (coding_of a.split a.by_table a.kinds.now) a.encoding a.endian a.section.now a.at h).1)
-
-pub returns-in-End : goal.returns-in-End
-returns-in-End c = noted_ended _ (sym (ap (λ r. step_in c.args.locations (told_location r)) c.in-End.is) ∙ c.raw_entry.ensures)
-
-pub returns-in-Refused : goal.returns-in-Refused
-returns-in-Refused c = noted_refused _ (sym (ap (λ r. step_in c.args.locations (told_location r)) c.in-Refused.is) ∙ c.raw_entry.ensures)
+    let h = there (goal.at.returns c).In-Some in
+    noted_found _ h (c.longer-padded.ensures ∙ sym (step_padded (are_locations a.lists.now) (coding_in a.lists.now) a.encoding a.endian a.section.now a.at h).1)

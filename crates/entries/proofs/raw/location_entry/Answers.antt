@@ -1,9 +1,7 @@
--- The head is the entry's, and so is its step. Assumes nothing.
-use Rattle.entries.proofs.HeadLaws.{location_within, location_step}
+-- The head is the entry's, so it ends in the part. Assumes nothing.
+use Rattle.std.specs.Prelude.{Ok}
+use Rattle.entries.proofs.HeadLaws.{location_within}
 use Rattle.entries.proofs.raw.location_entry.Goals as goal
 
-pub step_of-requires : goal.step_of-requires
-step_of-requires c = record { part_bound = c.requires; within = location_within _ _ c.args.start _ c.entry_head-head.result _ c.entry_head-head.ensures }
-
-pub returns : goal.returns
-returns c = location_step _ _ _ _ c.entry_head-head.result _ c.entry_head-head.ensures _ c.step_of.ensures
+pub entry_of-requires-clause-within : goal.entry_of-requires-clause-within
+entry_of-requires-clause-within c = location_within _ _ c.args.start _ (Ok c.in_ok-head.head) _ c.in_ok-head.ensures

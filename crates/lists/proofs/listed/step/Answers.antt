@@ -1,50 +1,36 @@
 -- What was read, and what that comes to, kind by kind. Assumes nothing.
-use mathlib.Core.Path.{◌≡◌, refl, sym, ap, ◌∙◌}
-use Rattle.section_bytes.specs.Read.{gives, got}
-use Rattle.entries.specs.Forms.{entry}
-use Rattle.entries.specs.Listed.{entry_in, read_in, step_in}
-use Rattle.entries.specs.Numbers.{coding_of}
-use Rattle.entries.specs.Told.{told_location}
-use Rattle.entries.proofs.StepLaws.{step_found, step_ended, step_failed}
-use Rattle.lists.specs.Convert.{told_turn, convert, table_at}
-use Rattle.lists.specs.Walk.{bounds_in}
-use Rattle.lists.proofs.ListedLaws.{bounds_in_lem}
-use Rattle.lists.proofs.SteppedLaws.{step_refused, step_over, step_turned, located_is}
-use Rattle.lists.proofs.listed.step.Goals.{After-convert_entry, In-Entry}
+use mathlib.Core.Path.{◌≡◌, refl}
+use Rattle.section_bytes.specs.Read.{gives}
+use Rattle.entries.specs.Listed.{entry_in, read_in}
+use Rattle.entries.specs.Lists.{are_locations, coding_in}
+use Rattle.entries.specs.Told.{found, step_of}
+use Rattle.lists.proofs.SteppedLaws.{step_told, step_turned, located_is}
+use Rattle.lists.proofs.listed.step.Goals.{In-Some}
 use Rattle.lists.proofs.listed.step.Goals as goal
 
-entry_read : (c : In-Entry) → (let a = c.args in
-    read_in a.locations (coding_of a.split a.by_table a.kinds.now) a.encoding a.endian a.section.now a.at ≡ gives (got (entry (entry_in a.locations c.in-Entry.raw)) c.in-Entry.c))
-entry_read c = step_found _ (sym (ap (λ r. step_in c.args.locations (told_location r)) c.in-Entry.is) ∙ c.raw_entry.ensures)
+-- what was read is an entry
+there : (c : In-Some) → (let a = c.args in let l = are_locations a.lists.now in
+    gives (found (entry_in l c.in-Some.raw) c.in-Some.after) ≡ step_of (read_in l (coding_in a.lists.now) a.unit.now.encoding a.unit.now.endian a.section.now a.at))
+there c = rw c.in-Some.is at c.in_ok-raw.ensures
 
-comes-to : (c : After-convert_entry) → (let a = c.args in
-    told_turn c.convert_entry.result ≡ convert (table_at a.endian a.encoding a.debug_addr_base a.debug_addr.now) a.encoding.address_size a.base_address (bounds_in a.locations (entry_in a.locations c.in-Entry.raw)))
-comes-to c = c.convert_entry.ensures ∙ ap (convert _ _ _) (c.bounds_of-bounds.ensures ∙ sym (bounds_in_lem c.args.locations c.in-Entry.raw))
+pub returns-in_default : goal.returns-in_default
+returns-in_default c = step_told _ _ _ c.args.unit.now _ _ (rw c.in_default.is at c.in_ok-raw.ensures)
 
 pub returns-then-is_default_in : goal.returns-then-is_default_in
-returns-then-is_default_in c = step_turned _ _ _ _ _ (entry_read (goal.at.returns-then-is_default_in c).In-Entry)
-    (ap told_turn (sym c.in-Range.is) ∙ comes-to (goal.at.returns-then-is_default_in c).After-convert_entry)
-    (located_is c.args.locations c.in-Entry.raw c.expression_of-data.ensures (sym c.if-is_default_in.true ∙ c.is_default_in.ensures))
-
-pub returns-in-Refused : goal.returns-in-Refused
-returns-in-Refused c = step_refused _ _ _ _ _ (step_failed _ (sym (ap (λ r. step_in c.args.locations (told_location r)) c.in-Refused.is) ∙ c.raw_entry.ensures))
-
-pub returns-in-End : goal.returns-in-End
-returns-in-End c = step_over _ _ _ _ _ (step_ended _ (sym (ap (λ r. step_in c.args.locations (told_location r)) c.in-End.is) ∙ c.raw_entry.ensures)).1
+returns-then-is_default_in c =
+    step_turned _ _ _ c.args.unit.now _ _ c.in-Some.raw (there (goal.at.returns-then-is_default_in c).In-Some) c.bounds_of-bounds.ensures (rw c.in-Ok-Range.field-0-is at c.in-Ok-Range.ensures)
+    (located_is _ _ c.expression_of-data.ensures c.if-is_default_in.ensures)
 
 pub returns-else-is_default_in : goal.returns-else-is_default_in
-returns-else-is_default_in c = step_turned _ _ _ _ _ (entry_read (goal.at.returns-else-is_default_in c).In-Entry)
-    (ap told_turn (sym c.in-Range.is) ∙ comes-to (goal.at.returns-else-is_default_in c).After-convert_entry)
-    (located_is c.args.locations c.in-Entry.raw c.expression_of-data.ensures (sym c.if-is_default_in.false ∙ c.is_default_in.ensures))
+returns-else-is_default_in c =
+    step_turned _ _ _ c.args.unit.now _ _ c.in-Some.raw (there (goal.at.returns-else-is_default_in c).In-Some) c.bounds_of-bounds.ensures (rw c.in-Ok-Range.field-0-is at c.in-Ok-Range.ensures)
+    (located_is _ _ c.expression_of-data.ensures c.if-is_default_in.ensures)
 
-pub returns-in-Base : goal.returns-in-Base
-returns-in-Base c = step_turned _ _ _ _ _ (entry_read (goal.at.returns-in-Base c).In-Entry)
-    (ap told_turn (sym c.in-Base.is) ∙ comes-to (goal.at.returns-in-Base c).After-convert_entry) refl
+pub returns-in-Ok-Base : goal.returns-in-Ok-Base
+returns-in-Ok-Base c = step_turned _ _ _ c.args.unit.now _ _ c.in-Some.raw (there (goal.at.returns-in-Ok-Base c).In-Some) c.bounds_of-bounds.ensures (rw c.in-Ok-Base.field-0-is at c.in-Ok-Base.ensures) refl
 
-pub returns-in-Skip : goal.returns-in-Skip
-returns-in-Skip c = step_turned _ _ _ _ _ (entry_read (goal.at.returns-in-Skip c).In-Entry)
-    (ap told_turn (sym c.in-Skip.is) ∙ comes-to (goal.at.returns-in-Skip c).After-convert_entry) refl
+pub returns-in-Ok-Skip : goal.returns-in-Ok-Skip
+returns-in-Ok-Skip c = step_turned _ _ _ c.args.unit.now _ _ c.in-Some.raw (there (goal.at.returns-in-Ok-Skip c).In-Some) c.bounds_of-bounds.ensures (rw c.in-Ok-Skip.field-0-is at c.in-Ok-Skip.ensures) refl
 
-pub returns-in-Refused-convert_entry : goal.returns-in-Refused-convert_entry
-returns-in-Refused-convert_entry c = step_turned _ _ _ _ _ (entry_read (goal.at.returns-in-Refused-convert_entry c).In-Entry)
-    (ap told_turn (sym c.in-Refused-convert_entry.is) ∙ comes-to (goal.at.returns-in-Refused-convert_entry c).After-convert_entry) refl
+pub returns-in-Err : goal.returns-in-Err
+returns-in-Err c = step_turned _ _ _ c.args.unit.now _ _ c.in-Some.raw (there (goal.at.returns-in-Err c).In-Some) c.bounds_of-bounds.ensures c.in-Err.ensures refl

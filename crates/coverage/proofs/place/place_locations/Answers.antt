@@ -1,5 +1,0 @@
--- The coverage of the list, split as the file type says. Assumes nothing.
-use Rattle.coverage.proofs.place.place_locations.Goals as goal
-
-pub returns : goal.returns
-returns c = rw (← c.is_split-split.ensures) c.place_list.ensures

@@ -1,5 +1,0 @@
--- `locations::numbers` meets its contract: by the contracts of the calls in it. Assumes nothing.
-use Rattle.ffi_words.proofs.locations.numbers.Goals as goal
-
-pub returns : goal.returns
-returns c = rw c.no_part.ensures

@@ -1,5 +1,0 @@
--- `reads::number` meets its contract: by the contracts of the calls in it. Assumes nothing.
-use Rattle.ffi_words.proofs.reads.number.Goals as goal
-
-pub returns : goal.returns
-returns c = rw c.comes_to.ensures

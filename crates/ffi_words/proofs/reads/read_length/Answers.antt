@@ -1,8 +1,0 @@
--- `reads::read_length` meets its contract: by the contracts of the calls in it. Assumes nothing.
-use Rattle.ffi_words.proofs.reads.read_length.Goals as goal
-
-pub returns-in-Got : goal.returns-in-Got
-returns-in-Got c = rw (c.in-Got.is, c.is_dwarf64.ensures, c.comes_to.ensures)
-
-pub returns-in-Refused : goal.returns-in-Refused
-returns-in-Refused c = rw (c.in-Refused.is, c.refused.ensures)

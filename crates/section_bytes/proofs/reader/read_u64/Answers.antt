@@ -1,8 +1,0 @@
--- Eight bytes are a size. Assumes nothing.
-use Rattle.section_bytes.specs.Reader.{is_size}
-use Rattle.std.proofs.Common.{refl}
-use Rattle.section_bytes.proofs.reader.read_u64.Goals as goal
-
-pub read_uint-requires : goal.read_uint-requires
-unfolding is_size
-read_uint-requires c = refl
