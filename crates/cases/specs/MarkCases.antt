@@ -25,7 +25,7 @@ use Rattle.lists.specs.Walk.{item, comes, nothing, trace_from, trace, next, next
 use Rattle.lists.specs.declared.Walk.{Walk}
 use Rattle.marks.specs.Calls as calls
 use Rattle.marks.specs.Calls.{Source, Call, Answer, over, AnyCall, AnyAnswer, on, of, every}
-use Rattle.marks.specs.Marks.{Marked, marked, fresh, set_mark, return_to, Handed, handed, answered}
+use Rattle.marks.specs.Marks.{Keeping, Marked, marked, fresh, set_mark, return_to, Handed, handed, answered}
 use Rattle.marks.specs.Steps.{Step, reads, sets, returns, Tells, read, marking, run, answers, NoReturn, NotSet}
 use Rattle.marks.specs.Told.{structs}
 use Rattle.cases.specs.Cases.{enc, table, expression}
@@ -58,7 +58,27 @@ set_one = refl
 return_one : return_to structs 1 some ≡ gives (marked second (eight (Some first) (Some second) None None))
 return_one = refl
 
--- a number above 7, and a mark that is not set: 13, and nothing changes
+-- a number above 7, and a mark that is not set, whatever walk stands in it where it is kept as a flag beside a walk: 13, and nothing
+-- changes
+record Flagged : Type 0 where
+  is_set : Bool
+  walk : Walk
+
+abbrev flag : Bool → Walk → Flagged
+flag s w = record { is_set = s; walk = w }
+
+abbrev flagged : Keeping Walk Flagged
+flagged =
+    record {
+      unset = flag false (walk_at 0 0 0);
+      set_to = λ w. flag true w;
+      is_set = λ x. x.is_set;
+      walk_of = λ x. x.walk;
+      unset_not_set = refl;
+      set_to_set = λ w. refl;
+      set_to_walk = λ w. refl;
+    }
+
 abbrev unchanged : Handed Walk (Option Walk)
 unchanged = handed (refused 13 []) some
 
@@ -70,8 +90,11 @@ above_seven = refl
 never_set : answered some (return_to structs 2 some) ∷ answered some (return_to structs 7 some) ∷ [] ≡ unchanged ∷ unchanged ∷ []
 never_set = refl
 
-not_set : return_to structs 0 (marked third (eight None None None None)) ≡ refused 13 []
+not_set : return_to flagged 0 (marked third (flag false first ∷ flagged.unset ∷ [])) ≡ refused 13 []
 not_set = refl
+
+none_set : return_to structs 0 (marked third (eight None None None None)) ≡ refused 13 []
+none_set = refl
 
 -- steps from a walk with no mark set: what they tell, and the walk with its marks behind them
 along : (x : Source) → List (Step (Call x.locations)) → Walk → List (Tells (Answer x.locations))
