@@ -181,8 +181,8 @@ typedef char yz_check_sizes[sizeof(yz_result) == 4 && sizeof(size_t) == 8 ? 1 : 
 #define YZ_SHEET_MAX (4 + 16 * YZ_LIMIT)
 #define YZ_CANONICAL_MAX (19 * YZ_LIMIT + 1)
 
-/* Bytes of stack that are more than a call takes, beside what memset, memcpy and memmove of the C library do: one that reads a list
- * for its coverage, runs or canonical list, and yz_coverage_from_canonical; the same where the list yields at most 32 ranges; one that
+/* Bytes of stack that are more than a call takes, beside what memset and memcpy of the C library do: one that reads a list for its
+ * coverage, runs or canonical list, and yz_coverage_from_canonical; the same where the list yields at most 32 ranges; one that
  * looks up several addresses; any other. */
 #define YZ_STACK (48 * YZ_LIMIT + 11000)
 #define YZ_STACK_SHORT 6000

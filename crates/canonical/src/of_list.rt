@@ -7,10 +7,10 @@ ghost use Rattle.canonical.specs.Canonical.{canonical_bytes, canonical_of};
 ghost use Rattle.coverage.specs.Ranges.{limit};
 ghost use Rattle.coverage.specs.Kept.{firsts};
 ghost use Rattle.coverage.specs.Gathered.{short, coverage_within, or_too_many};
-ghost use Rattle.coverage.specs.Covered.{range_list, range_list_by, location_list, source, source_in};
+ghost use Rattle.coverage.specs.Covered.{range_list, range_list_by, location_list, source, source_as};
 ghost use Rattle.coverage.specs.Output.{output, written};
 
-use coverage::collect::{Gathered, cover_long, cover_short};
+use coverage::collect::{Gathered, cover_long_as, cover_short_as};
 use coverage::{LIMIT, SHORT, Source};
 use lists::Unit;
 use section_bytes::common::{DwarfFileType, LocationListsOffset, RangeListsOffset};
@@ -21,34 +21,57 @@ use section_bytes::error::Error;
 fn canonical_long(
     again: bool,
     source: &Source,
+    locations: bool,
+    by_table: bool,
     first_begins: &[u64; SHORT],
     first_ends: &[u64; SHORT],
     out: &mut [u8],
 ) -> Result<usize, Error>
-    ensures { output (told_value result) out.new ≡ written (and_then (or_too_many (coverage_within (firsts short first_begins.now first_ends.now) (limit - short) (source_in source.now))) (λ rs. gives (canonical_bytes rs))) out.old }
+    ensures { output (told_value result) out.new ≡ written (and_then (or_too_many (coverage_within (firsts short first_begins.now first_ends.now) (limit - short) (source_as locations by_table source.now))) (λ rs. gives (canonical_bytes rs))) out.old }
 {
     if again {
-        return canonical_long(false, source, first_begins, first_ends, out);
+        return canonical_long(
+            false,
+            source,
+            locations,
+            by_table,
+            first_begins,
+            first_ends,
+            out,
+        );
     }
     let mut begins = [0u64; LIMIT];
     let mut ends = [0u64; LIMIT];
-    match cover_long(source, first_begins, first_ends, &mut begins, &mut ends)? {
+    match cover_long_as(
+        source,
+        locations,
+        by_table,
+        first_begins,
+        first_ends,
+        &mut begins,
+        &mut ends,
+    )? {
         Gathered::All(n) => super::put_list(n, &begins, &ends, out),
         Gathered::Full(_) => Err(Error::TooManyRanges),
     }
 }
 
-// The canonical list of a list, its coverage made in short arrays first.
-fn canonical_list(source: &Source, out: &mut [u8]) -> Result<usize, Error>
-    ensures { output (told_value result) out.new ≡ written (canonical_of (source_in source.now)) out.old }
+// The canonical list of a list, which holds what two words say, its coverage made in short arrays first.
+fn canonical_list(
+    source: &Source,
+    locations: bool,
+    by_table: bool,
+    out: &mut [u8],
+) -> Result<usize, Error>
+    ensures { output (told_value result) out.new ≡ written (canonical_of (source_as locations by_table source.now)) out.old }
 {
     let mut begins = [0u64; SHORT];
     let mut ends = [0u64; SHORT];
-    match cover_short(source, &mut begins, &mut ends)? {
+    match cover_short_as(source, locations, by_table, &mut begins, &mut ends)? {
         Gathered::All(n) => super::put_list(n, &begins, &ends, out),
         Gathered::Full(walk) => {
             let rest = source.from_walk(walk);
-            canonical_long(true, &rest, &begins, &ends, out)
+            canonical_long(true, &rest, locations, by_table, &begins, &ends, out)
         }
     }
 }
@@ -64,7 +87,7 @@ pub fn canonical_ranges<'a>(
     ensures { let u = unit.now in output (told_value result) out.new ≡ written (canonical_of (source range_list u.encoding u.endian section.now offset.0 base_address u.debug_addr.now u.debug_addr_base)) out.old }
 {
     let source = Source::ranges(section, unit, None, offset, base_address);
-    canonical_list(&source, out)
+    canonical_list(&source, false, false, out)
 }
 
 // The same by a table of kind numbers, which bare pairs have no use for. The list that is written has DWARF's.
@@ -79,7 +102,7 @@ pub fn canonical_ranges_by(
     ensures { let u = unit.now in output (told_value result) out.new ≡ written (canonical_of (source (range_list_by kinds.now) u.encoding u.endian section.now offset.0 base_address u.debug_addr.now u.debug_addr_base)) out.old }
 {
     let source = Source::ranges(section, unit, Some(kinds), offset, base_address);
-    canonical_list(&source, out)
+    canonical_list(&source, false, true, out)
 }
 
 // The canonical list of the location list at an offset, plain or split: the refusals of its coverage, then 11.
@@ -94,5 +117,5 @@ pub fn canonical_locations(
     ensures { let u = unit.now in output (told_value result) out.new ≡ written (canonical_of (source (location_list (is_split file_type)) u.encoding u.endian section.now offset.0 base_address u.debug_addr.now u.debug_addr_base)) out.old }
 {
     let source = Source::locations(section, unit, file_type, offset, base_address);
-    canonical_list(&source, out)
+    canonical_list(&source, true, false, out)
 }

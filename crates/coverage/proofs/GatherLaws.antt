@@ -2,6 +2,7 @@
 -- Assumes nothing.
 use Rattle.std.proofs.Common.{◌≡◌, ℕ, zero, suc, ◌+◌, ◌-◌, ◌<◌, ◌≤◌, Bool, true, false, ◌↔◌, List, [], ◌∷◌, ◌++◌, length, take, set, sym, refl, ap, ◌∙◌, subst, ap₂, inl, inr, ⊎_elim, append_assoc, append-nil, add-one, arith, length-append, length-set, length-take, take-suc-set, take_at, le-ltb, lt-ltb}
 use Rattle.std.specs.Prelude.{Some, None, Ok, Err}
+use Rattle.std.specs.Borrow.{Bor}
 use Rattle.std.specs.declared.option.Option.{Option}
 use Rattle.std.specs.declared.result.Result.{Result as Answer}
 use lib.Seq.{take_all}
@@ -32,10 +33,11 @@ use Rattle.lists.proofs.CallLaws.{next_hands, next_ends, next_ahead}
 use Rattle.lists.proofs.CountLaws.{trace_uncounted_lem}
 use Rattle.lists.proofs.NextLaws.{does}
 use Rattle.coverage.specs.Ranges.{Range, Covers, Apart, limit, runs}
-use Rattle.coverage.specs.Covered.{yielded_in, Holds, range_list, range_list_by, location_list, holding, Source, source, listing, trace_of, coverage_of}
+use Rattle.coverage.specs.Covered.{yielded_in, Holds, range_list, range_list_by, location_list, is_tabled, ranges_held, holding, has_table, holding_as, Source, source, source_in, source_as, listing, trace_of, coverage_of}
 use Rattle.coverage.specs.Kept.{paired, firsts}
 use Rattle.coverage.specs.Gathered.{short, Stored, Within, all, full, in_front, within, nonempty, covering, coverage_within, list_from, or_too_many, told_gathered}
 use Rattle.coverage.specs.Sorted.{Sized, AtLeast, ToRuns}
+use Rattle.coverage.specs.declared.Source as code
 use Rattle.coverage.specs.declared.collect.Gathered.TheVariants as gathered
 use Rattle.coverage.proofs.CallLaws.{after, after_none, coverage_refused, coverage_opened}
 use Rattle.coverage.proofs.RangeLaws.{Proper, unique, runs_apart, runs_cover, runs_length}
@@ -528,6 +530,32 @@ firsts_copied n bs es xs ys h k =
     take_paired n (bs ++ xs) (es ++ ys)
     ∙ ap₂ paired (take_at bs xs n h ∙ sym (take_all n bs (omega arith))) (take_at es ys n k ∙ sym (take_all n es (omega arith)))
     ∙ sym (take_paired n bs es)
+
+-- ---- what a list holds as two words say it
+-- the same list with something else that it holds
+abbrev held : Holds → Source → Source
+held h x = source h x.encoding x.endian x.section x.offset x.base_address x.table x.table_base
+
+pub covered_as : (done : List Range) (room : ℕ) (l t : Bool) (x : code.Source) (k : Lists) → holding k ≡ holding_as l t x.lists
+    → coverage_within done room (held (holding k) (source_in x)) ≡ coverage_within done room (source_as l t x)
+covered_as done room l t x k e = ap (λ (h : Holds). coverage_within done room (held h (source_in x))) e
+
+-- the words of its own lists say what it holds
+pub held_tabled : (k : Option (Bor (List ℕ))) → holding_as false (is_tabled k) (Ranges k) ≡ ranges_held k
+held_tabled None = refl
+held_tabled (Some t) = refl
+
+held_own : (k : Lists) → holding_as (are_locations k) (has_table k) k ≡ holding k
+held_own (Ranges k) = held_tabled k
+held_own (Locations file) = refl
+
+pub source_own : (x : code.Source) {l t : Bool} → l ≡ are_locations x.lists → t ≡ has_table x.lists → source_as l t x ≡ source_in x
+source_own x p q =
+    ap₂ (λ (l t : Bool). source_as l t x) p q ∙ ap (λ (h : Holds). held h (source_in x)) (held_own x.lists)
+
+-- so they do of what comes from a walk on
+pub source_on : (l t : Bool) (x y : code.Source) (w : Walk) → source_in y ≡ list_from (source_in x) w → y.lists ≡ x.lists → source_as l t y ≡ list_from (source_as l t x) w
+source_on l t x y w p q = ap₂ held (ap (holding_as l t) q) p
 
 -- how often a call calls itself
 abbrev pub turns : Bool → ℕ

@@ -1,5 +1,5 @@
 -- What a list covers, from its bytes alone: the ranges it yields from opening to its first end, and their runs.
-use Rattle.std.specs.Prelude.{ℕ, zero, suc, ◌<◌, Bool, List, [], ◌∷◌, length, slice_index, Some, None}
+use Rattle.std.specs.Prelude.{ℕ, zero, suc, ◌<◌, Bool, true, false, List, [], ◌∷◌, length, slice_index, Some, None}
 use Rattle.std.specs.Borrow.{Bor}
 use Rattle.std.specs.declared.option.Option.{Option}
 use Rattle.section_bytes.specs.Common.{is_split}
@@ -44,6 +44,32 @@ abbrev pub holding : Lists → Holds
 holding (Ranges kinds) = ranges_held kinds
 holding (Locations file) = location_list (is_split file)
 
+-- the words by which the code is told beforehand what a list holds: whether locations, that is `are_locations`, and whether a table
+-- belongs to it
+abbrev pub is_tabled : Option (Bor (List ℕ)) → Bool
+is_tabled None = false
+is_tabled (Some t) = true
+
+abbrev pub has_table : Lists → Bool
+has_table (Ranges kinds) = is_tabled kinds
+has_table (Locations file) = false
+
+-- what a list holds as two words say it, with the table or the file type that it has; in place of one that it doesn't have stands the
+-- empty table, and an ordinary file
+abbrev pub numbers_held : Lists → List ℕ
+numbers_held (Ranges None) = []
+numbers_held (Ranges (Some t)) = t.now
+numbers_held (Locations file) = []
+
+abbrev pub split_held : Lists → Bool
+split_held (Ranges kinds) = false
+split_held (Locations file) = is_split file
+
+abbrev pub holding_as : Bool → Bool → Lists → Holds
+holding_as true tabled lists = location_list (split_held lists)
+holding_as false true lists = range_list_by (numbers_held lists)
+holding_as false false lists = range_list
+
 -- a list: its sections, offset, base address, address table and table base, version and size, byte order, and what it holds
 -- (docs/SCOPE.md, "Demand 3")
 pub record Source : Type 0 where
@@ -72,7 +98,11 @@ source holds encoding endian s offset base table tableBase =
 
 -- a list as the code has it
 abbrev pub source_in : code.Source → Source
-source_in x = source (holding x.lists) x.unit.encoding x.unit.endian x.section.now x.offset x.base_address x.unit.debug_addr.now x.unit.debug_addr_base
+source_in x = source (holding x.lists) x.unit.encoding x.unit.endian x.section.now x.offset.0 x.base_address x.unit.debug_addr.now x.unit.debug_addr_base
+
+-- the same as two words say what it holds
+abbrev pub source_as : Bool → Bool → code.Source → Source
+source_as locations tabled x = source (holding_as locations tabled x.lists) x.unit.encoding x.unit.endian x.section.now x.offset.0 x.base_address x.unit.debug_addr.now x.unit.debug_addr_base
 
 -- how a list's entries are read
 abbrev pub listing : Holds → Encoding → RunTimeEndian → List ℕ → Listing

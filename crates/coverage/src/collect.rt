@@ -7,7 +7,7 @@ ghost use Rattle.entries.specs.Lists.{are_locations, coding_in};
 ghost use Rattle.lists.specs.Convert.{table_in};
 ghost use Rattle.lists.specs.Walk.{trace, listed};
 ghost use Rattle.coverage.specs.Ranges.{limit};
-ghost use Rattle.coverage.specs.Covered.{range_list, range_list_by, location_list, source, source_in, coverage_of, read_back};
+ghost use Rattle.coverage.specs.Covered.{range_list, range_list_by, location_list, holding, has_table, holding_as, source, source_in, source_as, coverage_of, read_back};
 ghost use Rattle.coverage.specs.Told.{made, told_made};
 ghost use Rattle.coverage.specs.Sorted.{Sized};
 ghost use Rattle.coverage.specs.Kept.{firsts};
@@ -75,41 +75,125 @@ fn gather(
     }
 }
 
-// The coverage of the ranges that stand at the front of two arrays and of a list, with room for as many ranges as the arrays have
-// places.
+// The lists that two words say, with the table or the file type of the source's own. Where the words are known when the code is
+// compiled, so is which lists are read, and the loop over the entries has nothing of the others; a source stands in memory, through
+// which that isn't seen.
+fn lists_as<'a>(locations: bool, by_table: bool, source: &Source<'a>) -> Lists<'a>
+    ensures itself { holding result ≡ holding_as locations by_table source.now.lists }
+    ensures said { holding result ≡ holding_as locations by_table result }
+{
+    if locations {
+        return match source.lists {
+            Lists::Locations(file_type) => Lists::Locations(file_type),
+            Lists::Ranges(_) => Lists::Locations(DwarfFileType::Main),
+        };
+    }
+    if by_table {
+        return match source.lists {
+            Lists::Ranges(Some(kinds)) => Lists::Ranges(Some(kinds)),
+            Lists::Ranges(None) => Lists::Ranges(Some(&source.section[..0])),
+            Lists::Locations(_) => Lists::Ranges(Some(&source.section[..0])),
+        };
+    }
+    Lists::Ranges(None)
+}
+
+// Range lists without a table.
+static PLAIN: Lists<'static> = Lists::Ranges(None);
+
+// The same lists; range lists without a table as a constant, which is seen through a reference before anything is inlined, so that a
+// bare pair, too, is read in the loop and not by a call.
+fn settled<'a>(locations: bool, by_table: bool, lists: &'a Lists<'a>) -> &'a Lists<'a>
+    requires { holding lists.now ≡ holding_as locations by_table lists.now }
+    ensures { holding result.now ≡ holding lists.now }
+{
+    if locations {
+        return lists;
+    }
+    if by_table {
+        return lists;
+    }
+    &PLAIN
+}
+
+// The coverage of the ranges that stand at the front of two arrays and of a list, which holds what two words say, with room for as many
+// ranges as the arrays have places.
 fn cover(
     source: &Source,
+    locations: bool,
+    by_table: bool,
     done: usize,
     begins: &mut [u64],
     ends: &mut [u64],
 ) -> Result<Gathered, Error>
     requires { (done ≤ length begins.old) × (length begins.old ≤ limit) × Sized (length begins.old) begins.old ends.old }
-    ensures ends_after { told_gathered result begins.new ends.new ≡ coverage_within (firsts done begins.old ends.old) (length begins.old - done) (source_in source.now) }
+    ensures ends_after { told_gathered result begins.new ends.new ≡ coverage_within (firsts done begins.old ends.old) (length begins.old - done) (source_as locations by_table source.now) }
     ensures sized { Sized (length begins.old) begins.new ends.new }
 {
+    let own = lists_as(locations, by_table, source);
+    let lists = settled(locations, by_table, &own);
     // Copied, so that the loop over the entries has it in registers: without that it takes half as many instructions more.
-    let Source {
-        section,
-        unit,
-        lists,
-        offset,
-        base_address,
-    } = *source;
+    let section = source.section;
+    let unit = source.unit;
     // Both lists open alike.
     let start = lists::rnglists::ranges(
         section,
-        RangeListsOffset(offset),
+        RangeListsOffset(source.offset.0),
         unit.encoding,
-        base_address,
+        source.base_address,
     )?;
-    match gather(section, &unit, &lists, start, done, begins, ends)? {
+    match gather(section, &unit, lists, start, done, begins, ends)? {
         Gathered::All(n) => Ok(Gathered::All(super::sort::to_runs(begins, ends, n))),
         Gathered::Full(walk) => Ok(Gathered::Full(walk)),
     }
 }
 
-// The coverage of a list. The arrays are lent for work: what they held is not read, and what stands behind the count, or of a list
-// that is refused, has no meaning.
+// The coverage of a list, which holds what two words say. The arrays are lent for work: what they held is not read, and what stands
+// behind the count, or of a list that is refused, has no meaning.
+pub fn cover_short_as(
+    source: &Source,
+    locations: bool,
+    by_table: bool,
+    begins: &mut [u64; SHORT],
+    ends: &mut [u64; SHORT],
+) -> Result<Gathered, Error>
+    ensures ends_after { told_gathered result begins.new ends.new ≡ coverage_within [] short (source_as locations by_table source.now) }
+    ensures sized { Sized short begins.new ends.new }
+{
+    cover(source, locations, by_table, 0, begins, ends)
+}
+
+// The same of a list that goes on behind the first ranges of short arrays that were full. The long arrays are lent for work, as the
+// short ones are.
+pub fn cover_long_as(
+    source: &Source,
+    locations: bool,
+    by_table: bool,
+    first_begins: &[u64; SHORT],
+    first_ends: &[u64; SHORT],
+    begins: &mut [u64; LIMIT],
+    ends: &mut [u64; LIMIT],
+) -> Result<Gathered, Error>
+    ensures ends_after { told_gathered result begins.new ends.new ≡ coverage_within (firsts short first_begins.now first_ends.now) (limit - short) (source_as locations by_table source.now) }
+    ensures sized { Sized limit begins.new ends.new }
+{
+    super::sort::copy(&mut begins[..SHORT], first_begins);
+    super::sort::copy(&mut ends[..SHORT], first_ends);
+    cover(source, locations, by_table, SHORT, begins, ends)
+}
+
+// The two words for lists: whether they hold locations, and whether a table belongs to them.
+fn words_of(lists: &Lists) -> (bool, bool)
+    ensures { (result.0 ≡ are_locations lists.now) × (result.1 ≡ has_table lists.now) }
+{
+    match *lists {
+        Lists::Locations(_) => (true, false),
+        Lists::Ranges(Some(_)) => (false, true),
+        Lists::Ranges(None) => (false, false),
+    }
+}
+
+// The coverage of a list, as the source's own lists say what it holds.
 pub fn cover_short(
     source: &Source,
     begins: &mut [u64; SHORT],
@@ -118,11 +202,11 @@ pub fn cover_short(
     ensures ends_after { told_gathered result begins.new ends.new ≡ coverage_within [] short (source_in source.now) }
     ensures sized { Sized short begins.new ends.new }
 {
-    cover(source, 0, begins, ends)
+    let (locations, by_table) = words_of(&source.lists);
+    cover_short_as(source, locations, by_table, begins, ends)
 }
 
-// The same of a list that goes on behind the first ranges of short arrays that were full. The long arrays are lent for work, as the
-// short ones are.
+// The same of a list that goes on behind the first ranges of short arrays that were full.
 pub fn cover_long(
     source: &Source,
     first_begins: &[u64; SHORT],
@@ -133,9 +217,16 @@ pub fn cover_long(
     ensures ends_after { told_gathered result begins.new ends.new ≡ coverage_within (firsts short first_begins.now first_ends.now) (limit - short) (source_in source.now) }
     ensures sized { Sized limit begins.new ends.new }
 {
-    begins[..SHORT].copy_from_slice(first_begins);
-    ends[..SHORT].copy_from_slice(first_ends);
-    cover(source, SHORT, begins, ends)
+    let (locations, by_table) = words_of(&source.lists);
+    cover_long_as(
+        source,
+        locations,
+        by_table,
+        first_begins,
+        first_ends,
+        begins,
+        ends,
+    )
 }
 
 // The coverage of the range list at an offset: the refusals of opening, then the first of a walk's refusal and 10.
@@ -215,4 +306,18 @@ pub fn from_canonical(bytes: &[u8]) -> Result<Coverage, Error>
     let mut ends = [0u64; LIMIT];
     let n = place_canonical(bytes, &mut begins, &mut ends)?;
     Ok(Coverage { n, begins, ends })
+}
+
+// The coverage of an answer; in place of a refused one the empty coverage.
+pub fn or_empty(answer: Result<Coverage, Error>) -> Coverage
+    ensures { result ≡ (told_made answer).coverage }
+{
+    match answer {
+        Ok(coverage) => coverage,
+        Err(_) => Coverage {
+            n: 0,
+            begins: [0; LIMIT],
+            ends: [0; LIMIT],
+        },
+    }
 }

@@ -14,13 +14,17 @@ pub const LIMIT: usize = 3000;
 // How many ranges are gathered first in arrays of their own: nearly all lists yield no more.
 pub const SHORT: usize = 32;
 
+// The offset of a list of either kind, beside what says which.
+#[derive(Clone, Copy)]
+pub struct ListsOffset(pub u64);
+
 // A list: the section that it stands in and its unit, which lists these are, where it begins, and its base address.
 #[derive(Clone, Copy)]
 pub struct Source<'a> {
     pub section: &'a [u8],
     pub unit: Unit<'a>,
     pub lists: Lists<'a>,
-    pub offset: u64,
+    pub offset: ListsOffset,
     pub base_address: u64,
 }
 

@@ -1,5 +1,5 @@
 -- The raw entry at a place, a step of the reader at a time. Assumes nothing.
-use mathlib.Core.Path.{◌≡◌}
+use mathlib.Core.Path.{◌≡◌, ap, fun_ext}
 use mathlib.Core.List.{List, [], ◌∷◌}
 use Prim.Native.Nat.{ℕ, ◌-◌, ◌≤◌, ◌<◌}
 use native.Mathlib.Omega.{arith}
@@ -11,9 +11,10 @@ use Rattle.section_bytes.specs.Reader.{uint}
 use Rattle.section_bytes.specs.declared.common.Encoding.{Encoding}
 use Rattle.section_bytes.specs.declared.endianity.RunTimeEndian.{RunTimeEndian}
 use Rattle.section_bytes.specs.declared.endianity.RunTimeEndian.TheVariants.{Little}
+use Rattle.section_bytes.specs.declared.error.Error.{Error}
 use Rattle.entries.specs.Forms.{address, number, Raw, stop, operands}
 use Rattle.entries.specs.declared.RawRngListEntry.TheVariants.{StartLength}
-use Rattle.entries.specs.Kinds.{unknown, range_kinds, location_kinds, kind_of, coded, coded_range_by, coded_range, bare_range, range_entry_by, moved, raw_at}
+use Rattle.entries.specs.Kinds.{Kind, unknown, range_kinds, location_kinds, kind_of, coded, coded_range_by, coded_range, bare_range, range_entry_by, moved, raw_at}
 
 -- an entry by its code: a start and a length, or the end mark
 module _ (encoding : Encoding) (endian : RunTimeEndian) (s : List ℕ) {c : ℕ} where
@@ -61,3 +62,8 @@ module _ {E : Type 0} (read : List ℕ → Read (Raw E)) (s : List ℕ) (at : �
 -- the part from a place on, as the code hands it over
 pub part_is : (s : List ℕ) (at : ℕ) → take (length s - at) (drop at s) ≡ drop at s
 part_is s at = take_all (length s - at) (drop at s) (omega (arith, length-drop at s))
+
+-- maps that agree on every code read alike: a loaded table that says what the fixed one says changes nothing
+pub same_kinds : {E : Type 0} (encoding : Encoding) (endian : RunTimeEndian) (start : ℕ) (s : List ℕ) (unknownEntry : ℕ → Error) (f g : ℕ → Kind E) → ((code : ℕ) → f code ≡ g code)
+    → coded encoding endian start s unknownEntry f ≡ coded encoding endian start s unknownEntry g
+same_kinds encoding endian start s unknownEntry f g h = ap (λ (k : ℕ → Kind _). coded encoding endian start s unknownEntry k) (fun_ext h)

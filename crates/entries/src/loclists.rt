@@ -1,90 +1,72 @@
 // Location list entries (DWARF 5, 2.6.2 and 7.7.3; DWARF 4, 2.6.2; GNU split lists up to version 4).
-#![tactic(auto, using(section_bytes::proofs::ReaderLaws::goes_on, section_bytes::proofs::ReaderLaws::stops, crate::proofs::HeadLaws::head_handed_on), unfolding(crate::specs::Kinds::coded, crate::specs::Kinds::kind_of, crate::specs::Kinds::location_kinds, crate::specs::Heads::located_as))]
+#![tactic(auto, using(section_bytes::proofs::ReaderLaws::goes_on, section_bytes::proofs::ReaderLaws::stops, crate::proofs::HeadLaws::numbers_handed_on), unfolding(crate::specs::Kinds::kind_of, crate::specs::Kinds::location_kinds, crate::specs::Heads::located_as))]
 
 ghost use Rattle.std.specs.Prelude.{◌≡◌, ℕ};
+ghost use Rattle.section_bytes.specs.declared.error.Error.TheVariants.{UnknownLocListsEntry};
 ghost use Rattle.section_bytes.specs.Common.{is_split};
 ghost use Rattle.section_bytes.specs.declared.common.Encoding.{Encoding};
 ghost use Rattle.section_bytes.specs.declared.endianity.RunTimeEndian.{RunTimeEndian};
 ghost use Rattle.entries.specs.Told.{step_of};
-ghost use Rattle.entries.specs.Kinds.{coded_location, raw_location};
+ghost use Rattle.entries.specs.Kinds.{of_kind, kind_of, location_kinds, raw_location};
 ghost use Rattle.entries.specs.Padded.{noted, told_noted, location_padded};
-ghost use Rattle.entries.specs.Heads.{headed, number_pair, startx_length};
+ghost use Rattle.entries.specs.Heads.{with_numbers, number_pair, startx_length};
 
-use super::raw::Head;
 use super::{Lists, Noted, RawLocListEntry, constants};
 use section_bytes::common::{DwarfFileType, Encoding};
 use section_bytes::endianity::RunTimeEndian;
 use section_bytes::error::Error;
 
-// The head of kinds 2 and 4: two LEB128 numbers.
-fn number_pair(part: &[u8], at: usize, code: u64) -> Result<Head, Error>
-    ensures { (encoding : Encoding) (endian : RunTimeEndian) (start : ℕ) → headed encoding endian start part.now result ≡ number_pair encoding endian start part.now code at }
+// The numbers of kinds 2 and 4, with the place after them: both LEB128.
+fn number_pair(part: &[u8], at: usize) -> Result<(u64, u64, usize), Error>
+    ensures { (encoding : Encoding) (endian : RunTimeEndian) (start code : ℕ) → with_numbers encoding endian start part.now code result ≡ number_pair encoding endian start part.now code at }
 {
     let (a, c) = section_bytes::leb128::unsigned(part, at)?;
     let (b, c1) = section_bytes::leb128::unsigned(part, c)?;
-    Ok(Head::Bounds(code, a, b, c1))
+    Ok((a, b, c1))
 }
 
-// The head of kind 3: a LEB128 number and a length.
+// The numbers of kind 3: LEB128 and a length.
 fn startx_length(
+    part: &[u8],
+    at: usize,
+    encoding: Encoding,
+    endian: RunTimeEndian,
+) -> Result<(u64, u64, usize), Error>
+    ensures { (start code : ℕ) → with_numbers encoding endian start part.now code result ≡ startx_length encoding endian start part.now code at }
+{
+    let (a, c) = section_bytes::leb128::unsigned(part, at)?;
+    let (b, c1) = super::operands::read_length(part, c, encoding, endian)?;
+    Ok((a, b, c1))
+}
+
+// The two numbers of a kind that an expression follows, with the place after them; kind 5 has none. Each kind reads its own operands:
+// where the answers of two readers meet before they are looked at, the compiled code stores them and loads them again.
+pub(crate) fn numbers(
     part: &[u8],
     at: usize,
     code: u64,
     encoding: Encoding,
     endian: RunTimeEndian,
-) -> Result<Head, Error>
-    ensures { (start : ℕ) → headed encoding endian start part.now result ≡ startx_length encoding endian start part.now code at }
-{
-    let (a, c) = section_bytes::leb128::unsigned(part, at)?;
-    let (b, c1) = super::operands::read_length(part, c, encoding, endian)?;
-    Ok(Head::Bounds(code, a, b, c1))
-}
-
-// The head of an entry by its kind. Each kind reads its own operands: where the answers of two readers meet before they
-// are looked at, the compiled code stores them and loads them again.
-pub(crate) fn coded_head(
-    part: &[u8],
-    encoding: Encoding,
-    endian: RunTimeEndian,
-) -> Result<Head, Error>
-    ensures { (start : ℕ) → step_of (headed encoding endian start part.now result) ≡ step_of (coded_location encoding endian start part.now) }
+) -> Result<(u64, u64, usize), Error>
+    requires no_end { code ≡ 0 → ⊥ }
+    requires no_base_index { code ≡ 1 → ⊥ }
+    requires no_base { code ≡ 6 → ⊥ }
+    ensures { (start : ℕ) → with_numbers encoding endian start part.now code result ≡ of_kind encoding endian start part.now UnknownLocListsEntry code (kind_of location_kinds code) at }
 {
     let size = encoding.address_size;
-    let (code, c) = section_bytes::reader::read_u8(part, 0)?;
     match code {
-        constants::DW_LLE_end_of_list => Ok(Head::End),
-        constants::DW_LLE_base_addressx => {
-            let (a, c1) = section_bytes::leb128::unsigned(part, c)?;
-            Ok(Head::BaseAddressx(a, c1))
-        }
-        constants::DW_LLE_startx_endx => number_pair(part, c, constants::DW_LLE_startx_endx),
-        constants::DW_LLE_startx_length => startx_length(
-            part,
-            c,
-            constants::DW_LLE_startx_length,
-            encoding,
-            endian,
-        ),
-        constants::DW_LLE_offset_pair => number_pair(part, c, constants::DW_LLE_offset_pair),
-        constants::DW_LLE_default_location => Ok(Head::Bounds(
-            constants::DW_LLE_default_location,
-            0,
-            0,
-            c,
-        )),
-        constants::DW_LLE_base_address => {
-            let (a, c1) = section_bytes::reader::read_address(part, c, size, endian)?;
-            Ok(Head::BaseAddress(a, c1))
-        }
+        constants::DW_LLE_startx_endx | constants::DW_LLE_offset_pair => number_pair(part, at),
+        constants::DW_LLE_startx_length => startx_length(part, at, encoding, endian),
+        constants::DW_LLE_default_location => Ok((0, 0, at)),
         constants::DW_LLE_start_end => {
-            let (a, c1) = section_bytes::reader::read_address(part, c, size, endian)?;
-            let (b, c2) = section_bytes::reader::read_address(part, c1, size, endian)?;
-            Ok(Head::Bounds(constants::DW_LLE_start_end, a, b, c2))
+            let (a, c) = section_bytes::reader::read_address(part, at, size, endian)?;
+            let (b, c1) = section_bytes::reader::read_address(part, c, size, endian)?;
+            Ok((a, b, c1))
         }
         constants::DW_LLE_start_length => {
-            let (a, c1) = section_bytes::reader::read_address(part, c, size, endian)?;
-            let (b, c2) = section_bytes::leb128::unsigned(part, c1)?;
-            Ok(Head::Bounds(constants::DW_LLE_start_length, a, b, c2))
+            let (a, c) = section_bytes::reader::read_address(part, at, size, endian)?;
+            let (b, c1) = section_bytes::leb128::unsigned(part, c)?;
+            Ok((a, b, c1))
         }
         _ => Err(Error::UnknownLocListsEntry(code)),
     }

@@ -3,6 +3,8 @@
 
 ghost use Rattle.std.specs.Prelude.{◌≡◌, ◌+◌, ◌<◌, ◌^◌, length};
 ghost use Rattle.section_bytes.specs.Error.{told};
+ghost use Rattle.section_bytes.specs.Read.{read_then};
+ghost use Rattle.section_bytes.specs.Reader.{uint};
 ghost use Rattle.entries.specs.Forms.{expression, versioned_length, block, operand};
 ghost use Rattle.entries.specs.Kinds.{is_end};
 
@@ -39,6 +41,20 @@ fn expression_bytes(part: &[u8], at: usize, len: u64, start: usize) -> Read<Expr
     Ok((expression, c))
 }
 
+// An expression whose length has two bytes. 1.
+pub(crate) fn short_expression(
+    part: &[u8],
+    at: usize,
+    start: usize,
+    endian: RunTimeEndian,
+) -> Read<Expression>
+    requires { start + length part.now < 2 ^ 64 }
+    ensures { told result ≡ read_then (uint endian 2 part.now at) (block start part.now) }
+{
+    let (len, c) = section_bytes::reader::read_u16(part, at, endian)?;
+    expression_bytes(part, c, len, start)
+}
+
 // An expression of a part that starts at a place of its section: its length, LEB128 or two bytes up to version 4, and as
 // many bytes. 1, 2. A length of one byte goes straight on to the expression's bytes.
 pub(crate) fn read_expression(
@@ -58,8 +74,7 @@ pub(crate) fn read_expression(
         let (len, c) = section_bytes::leb128::unsigned(part, at)?;
         return expression_bytes(part, c, len, start);
     }
-    let (len, c) = section_bytes::reader::read_u16(part, at, endian)?;
-    expression_bytes(part, c, len, start)
+    short_expression(part, at, start, endian)
 }
 
 // Whether a bare pair ends its list.

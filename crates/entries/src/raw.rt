@@ -1,44 +1,42 @@
-// Raw entries of both lists, read as location entries, whose expression is empty in a range list. The operands of a kind are
-// read in the list's own module; all else is here.
+// Raw entries of both lists, read as location entries, whose expression is empty in a range list. The entry of a range's kind and
+// the numbers of a location's are read in the list's own module; all else is here.
 ghost use Rattle.std.specs.Prelude.{Bool, false, ◌≡◌, ℕ, ◌+◌, ◌<◌, ◌^◌, length, Ok};
 ghost use Rattle.section_bytes.specs.Common.{is_split};
 ghost use Rattle.entries.specs.Told.{step_of, told_step};
-ghost use Rattle.entries.specs.Kinds.{has_kinds, range_entry_by, location_entry, moved};
+ghost use Rattle.entries.specs.Kinds.{has_kinds, range_entry_by, coded_location, bare_location, location_entry, moved};
 ghost use Rattle.entries.specs.Numbers.{numbers_of};
 ghost use Rattle.entries.specs.Lists.{are_locations, coding_in};
 ghost use Rattle.entries.specs.Listed.{bounds, read_in, step_in};
-ghost use Rattle.entries.specs.Heads.{located_as, headed, headed_in, bare_in, Within};
+ghost use Rattle.entries.specs.Heads.{located_as, paired_in, bare_in};
 
 use super::{Expression, Lists, NO_EXPRESSION, RawLocListEntry, RawRngListEntry, constants};
 use section_bytes::common::{DebugAddrIndex, DwarfFileType, Encoding};
 use section_bytes::endianity::RunTimeEndian;
 use section_bytes::error::Error;
 
-// What stands before an entry's expression, with the place after it: a code with two numbers, 0 for a bare pair and 5
-// without numbers; a base address or an end, which no expression follows.
+// What a bare pair is, with the place after it.
 #[derive(Clone, Copy)]
-pub(crate) enum Head {
-    Bounds(u64, u64, u64, usize),
+enum Pair {
+    Bounds(u64, u64, usize),
     BaseAddress(u64, usize),
-    BaseAddressx(u64, usize),
     End,
 }
 
-// The head of a bare pair: both zero end the list, a begin with all bits set makes the end the base address.
-#[tactic(auto, using(section_bytes::proofs::ReaderLaws::goes_on, section_bytes::proofs::ReaderLaws::stops, crate::proofs::HeadLaws::head_handed_on, crate::proofs::HeadLaws::pair_head), unfolding(crate::specs::Kinds::bare, crate::specs::Kinds::of_pair))]
-fn bare_head(part: &[u8], encoding: Encoding, endian: RunTimeEndian) -> Result<Head, Error>
-    ensures { (l : Bool) (start : ℕ) → step_of (headed_in l encoding endian start part.now result) ≡ step_of (bare_in l encoding endian start part.now) }
+// A bare pair: both zero end the list, a begin with all bits set makes the end the base address.
+#[tactic(auto, using(section_bytes::proofs::ReaderLaws::goes_on, section_bytes::proofs::ReaderLaws::stops, crate::proofs::HeadLaws::pair_handed_on), unfolding(crate::specs::Kinds::bare, crate::specs::Kinds::of_pair))]
+fn bare_pair(part: &[u8], encoding: Encoding, endian: RunTimeEndian) -> Result<Pair, Error>
+    ensures { (l : Bool) (start : ℕ) → step_of (paired_in l encoding endian start part.now result) ≡ step_of (bare_in l encoding endian start part.now) }
 {
     let size = encoding.address_size;
     let (begin, c) = section_bytes::reader::read_address(part, 0, size, endian)?;
     let (end, c1) = section_bytes::reader::read_address(part, c, size, endian)?;
     if super::operands::is_end(begin, end) {
-        return Ok(Head::End);
+        return Ok(Pair::End);
     }
     if begin == section_bytes::address::ones_sized(size) {
-        return Ok(Head::BaseAddress(end, c1));
+        return Ok(Pair::BaseAddress(end, c1));
     }
-    Ok(Head::Bounds(constants::ADDRESS_OR_OFFSET_PAIR, begin, end, c1))
+    Ok(Pair::Bounds(begin, end, c1))
 }
 
 // Whether entries have kinds: in split lists always, else from version 5 on.
@@ -51,29 +49,12 @@ fn has_kinds(file_type: DwarfFileType, version: u16) -> bool
     }
 }
 
-// The head of a location entry.
-#[tactic(auto, unfolding(crate::specs::Kinds::location_entry))]
-fn entry_head(
-    part: &[u8],
-    encoding: Encoding,
-    endian: RunTimeEndian,
-    file_type: DwarfFileType,
-) -> Result<Head, Error>
-    ensures { (start : ℕ) → step_of (headed encoding endian start part.now result) ≡ step_of (location_entry (is_split file_type) encoding endian start part.now) }
-{
-    if has_kinds(file_type, encoding.version) {
-        return super::loclists::coded_head(part, encoding, endian);
-    }
-    bare_head(part, encoding, endian)
-}
-
-// The entry of a head and the expression after it.
+// The entry of a code, the two numbers after it and the expression after these.
 #[tactic(auto, using(crate::proofs::HeadLaws::located_else), unfolding(crate::specs::Heads::located_as, crate::specs::Kinds::kind_of, crate::specs::Kinds::location_kinds))]
 fn located(code: u64, a: u64, b: u64, expression: Expression) -> RawLocListEntry
     ensures { result ≡ located_as code a b expression }
 {
     match code {
-        constants::ADDRESS_OR_OFFSET_PAIR => RawLocListEntry::AddressOrOffsetPair(a, b, expression),
         constants::DW_LLE_startx_endx => RawLocListEntry::StartxEndx(
             DebugAddrIndex(a),
             DebugAddrIndex(b),
@@ -91,46 +72,8 @@ fn located(code: u64, a: u64, b: u64, expression: Expression) -> RawLocListEntry
     }
 }
 
-// The entry of a head at the front of a part that starts at a place of its section, with the place after it, which is counted in
-// the section; none for an end. The expression is read at this one place of the code, whatever the head, so that the reading is
-// compiled into it.
-#[tactic(auto, using(section_bytes::proofs::ReaderLaws::goes_on, section_bytes::proofs::ReaderLaws::stops, crate::proofs::StepLaws::step_handed_on, crate::proofs::HeadLaws::data_stops, crate::proofs::HeadLaws::data_step, crate::proofs::HeadLaws::pair_within, crate::proofs::HeadLaws::pair_step))]
-fn entry_of(
-    head: Head,
-    part: &[u8],
-    start: usize,
-    encoding: Encoding,
-    endian: RunTimeEndian,
-    locations: bool,
-) -> Result<Option<(RawLocListEntry, usize)>, Error>
-    requires part_bound { start + length part.now < 2 ^ 64 }
-    requires within { Within (length part.now) (headed_in locations encoding endian start part.now (Ok head)) }
-    ensures { step_in locations (told_step result) ≡ step_of (moved start (headed_in locations encoding endian start part.now (Ok head))) }
-{
-    match head {
-        Head::End => Ok(None),
-        Head::BaseAddress(address, c) => Ok(Some((
-            RawLocListEntry::BaseAddress(address),
-            start + c,
-        ))),
-        Head::BaseAddressx(index, c) => {
-            let entry = RawLocListEntry::BaseAddressx(DebugAddrIndex(index));
-            Ok(Some((entry, start + c)))
-        }
-        Head::Bounds(code, a, b, c) => {
-            if locations {
-                let (expression, c1) = super::operands::read_expression(
-                    part, c, start, encoding, endian,
-                )?;
-                return Ok(Some((located(code, a, b, expression), start + c1)));
-            }
-            Ok(Some((located(code, a, b, NO_EXPRESSION), start + c)))
-        }
-    }
-}
-
 // The entry at the front of a part that starts at a place of its section: kinds from version 5 on, bare pairs before.
-#[tactic(auto, using(crate::proofs::HeadLaws::range_within), unfolding(crate::specs::Kinds::range_entry_by))]
+#[tactic(auto, unfolding(crate::specs::Kinds::range_entry_by))]
 fn range_entry(
     part: &[u8],
     start: usize,
@@ -144,12 +87,84 @@ fn range_entry(
     if 5 <= encoding.version {
         return super::rnglists::coded_range(part, start, encoding, endian, kinds);
     }
-    let head = bare_head(part, encoding, endian)?;
-    entry_of(head, part, start, encoding, endian, false)
+    match bare_pair(part, encoding, endian)? {
+        Pair::End => Ok(None),
+        Pair::BaseAddress(address, c) => Ok(Some((
+            RawLocListEntry::BaseAddress(address),
+            start + c,
+        ))),
+        Pair::Bounds(begin, end, c) => {
+            let entry = RawLocListEntry::AddressOrOffsetPair(begin, end, NO_EXPRESSION);
+            Ok(Some((entry, start + c)))
+        }
+    }
+}
+
+// The entry of a location's kind at the front of a part that starts at a place of its section, with the place after it, which is
+// counted in the section; none at the end mark. What no expression follows is answered at once: in one answer with the other kinds it
+// goes through memory, and a base address takes half as long again. The expression is read at this one place of the code, whatever
+// the kind, so that the reading is compiled into it.
+#[tactic(auto, using(section_bytes::proofs::ReaderLaws::goes_on, section_bytes::proofs::ReaderLaws::stops, crate::proofs::StepLaws::step_handed_on, section_bytes::proofs::Inside::unsigned_inside, crate::proofs::MovedLaws::address_within), unfolding(crate::specs::Kinds::coded, crate::specs::Kinds::kind_of, crate::specs::Kinds::location_kinds))]
+fn coded_location(
+    part: &[u8],
+    start: usize,
+    encoding: Encoding,
+    endian: RunTimeEndian,
+) -> Result<Option<(RawLocListEntry, usize)>, Error>
+    requires { start + length part.now < 2 ^ 64 }
+    ensures { told_step result ≡ step_of (moved start (coded_location encoding endian start part.now)) }
+{
+    let size = encoding.address_size;
+    let (code, c) = section_bytes::reader::read_u8(part, 0)?;
+    match code {
+        constants::DW_LLE_end_of_list => Ok(None),
+        constants::DW_LLE_base_addressx => {
+            let (index, c1) = section_bytes::leb128::unsigned(part, c)?;
+            let entry = RawLocListEntry::BaseAddressx(DebugAddrIndex(index));
+            Ok(Some((entry, start + c1)))
+        }
+        constants::DW_LLE_base_address => {
+            let (address, c1) = section_bytes::reader::read_address(part, c, size, endian)?;
+            Ok(Some((RawLocListEntry::BaseAddress(address), start + c1)))
+        }
+        _ => {
+            let (a, b, c1) = super::loclists::numbers(part, c, code, encoding, endian)?;
+            let (expression, c2) = super::operands::read_expression(
+                part, c1, start, encoding, endian,
+            )?;
+            Ok(Some((located(code, a, b, expression), start + c2)))
+        }
+    }
+}
+
+// The entry of a bare pair of a location list. It reads its own expression, whose length has two bytes: where pairs and kinds meet
+// before an expression is read, a pair takes up to a third longer.
+fn bare_location(
+    part: &[u8],
+    start: usize,
+    encoding: Encoding,
+    endian: RunTimeEndian,
+) -> Result<Option<(RawLocListEntry, usize)>, Error>
+    requires part_bound { start + length part.now < 2 ^ 64 }
+    requires before { encoding.version < 5 }
+    ensures { told_step result ≡ step_of (moved start (bare_location encoding endian start part.now)) }
+{
+    match bare_pair(part, encoding, endian)? {
+        Pair::End => Ok(None),
+        Pair::BaseAddress(address, c) => Ok(Some((
+            RawLocListEntry::BaseAddress(address),
+            start + c,
+        ))),
+        Pair::Bounds(begin, end, c) => {
+            let (expression, c1) = super::operands::short_expression(part, c, start, endian)?;
+            let entry = RawLocListEntry::AddressOrOffsetPair(begin, end, expression);
+            Ok(Some((entry, start + c1)))
+        }
+    }
 }
 
 // The entry at the front of a part of a location list: kinds from version 5 on, and in split lists of every version.
-#[tactic(auto, using(crate::proofs::HeadLaws::location_step, crate::proofs::StepLaws::step_handed_on))]
+#[tactic(auto, unfolding(crate::specs::Kinds::location_entry))]
 fn location_entry(
     part: &[u8],
     start: usize,
@@ -160,8 +175,10 @@ fn location_entry(
     requires { start + length part.now < 2 ^ 64 }
     ensures { told_step result ≡ step_of (moved start (location_entry (is_split file_type) encoding endian start part.now)) }
 {
-    let head = entry_head(part, encoding, endian, file_type)?;
-    entry_of(head, part, start, encoding, endian, true)
+    if has_kinds(file_type, encoding.version) {
+        return coded_location(part, start, encoding, endian);
+    }
+    bare_location(part, start, encoding, endian)
 }
 
 // The raw entry at a place of a list, with the place after it; at or past the section's end, none. Refused with 3 for ranges and 4

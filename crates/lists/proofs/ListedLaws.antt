@@ -28,11 +28,30 @@ use Rattle.entries.specs.declared.RawRngListEntry.{RawRngListEntry}
 use Rattle.entries.specs.declared.RawLocListEntry.{RawLocListEntry}
 use Rattle.lists.specs.Open.{moved_to, read_to}
 use Rattle.lists.specs.Convert.{Turn, range, rebase, skip, convert, bounds, expression_of}
-use Rattle.lists.specs.Walk.{comes, outcome, converted, told_converted_location, told_converted_range, range_only, on_raw, next_raw, bounds_in, carried_in, data_in, noted, noted_of, outcome_in}
+use Rattle.lists.specs.Walk.{ranges, Item, item, comes, outcome, converted, convert_raw, told_converted_location, told_converted_range, range_only, on_raw, next_raw, next_in, bounds_in, carried_in, data_in, noted, noted_in, noted_of, outcome_in}
 use Rattle.lists.specs.Walks.{is_default}
-use Rattle.lists.specs.Steps.{is_default_in}
+use Rattle.lists.specs.Steps.{Step as OneStep, yields, rebases, passes, fails, ended as over, Located, is_default_in, stepped_in}
 use Rattle.lists.specs.declared.Walk.{Walk}
 use Rattle.lists.specs.declared.LocationListEntry.{LocationListEntry}
+
+-- an answer for a location is the code's own
+pub next_same : (q : Next (Item Expression) Walk) → next_in true q ≡ q
+next_same (hands (gives (item b e x)) w) = refl
+next_same (ends w) = refl
+next_same (hands (refused n vs) w) = refl
+
+pub noted_same : (q : Next (Noted RawLocListEntry) Walk) → noted_in true q ≡ q
+noted_same (hands (gives x) w) = refl
+noted_same (ends w) = refl
+noted_same (hands (refused n vs) w) = refl
+
+pub stepped_same : (q : Result (OneStep (Located Expression))) → stepped_in true q ≡ q
+stepped_same (gives (yields (item b e d) c)) = refl
+stepped_same (gives (rebases b c)) = refl
+stepped_same (gives (passes c)) = refl
+stepped_same (gives (fails n vs c)) = refl
+stepped_same (gives over) = refl
+stepped_same (refused n vs) = refl
 
 -- a default location is one of a location list
 pub default_in : (l : Bool) (e : RawLocListEntry) → l ≡ true → is_default e ≡ is_default_in l (entry_in l e)
@@ -114,11 +133,20 @@ told_range (Ok (Some x)) w = refl
 told_range (Ok None) w = refl
 told_range (Err e) w = refl
 
+-- a conversion of bounds for a range list
+module _ (table : DebugAddrIndex → Result ℕ) (size : ℕ) (w : Walk) (d : Expression) (b : RawRngListEntry) where
+  bounds_only : outcome_in false (converted table size w d b) ≡ converted table size w tt b
+  bounds_only = by (is_size size)
+    where
+      by : (t : Bool) → outcome_in false (pick t (outcome w d (convert table size w.base_address b)) (comes (refusal (UnsupportedAddressSize size)) w))
+          ≡ pick t (outcome w tt (convert table size w.base_address b)) (comes (refusal (UnsupportedAddressSize size)) w)
+      by true = outcome_range w d (convert table size w.base_address b)
+      by false = refl
+
+  pub converted_range : (encoding : Encoding) (endian : RunTimeEndian) (s : List ℕ) → outcome_in false (converted table size w d b) ≡ convert_raw (ranges encoding endian s) table size w b
+  unfolding convert_raw
+  converted_range encoding endian s = bounds_only
+
 pub converted_ranges : (r : Answer (Option LocationListEntry) Error) (v : Walk) (table : DebugAddrIndex → Result ℕ) (size : ℕ) (w : Walk) (d : Expression) (b : RawRngListEntry)
     → told_converted_location r v ≡ converted table size w d b → told_converted_range (range_only r) v ≡ converted table size w tt b
-converted_ranges r v table size w d b q = told_range r v ∙ ap (outcome_in false) q ∙ by (is_size size)
-  where
-    by : (t : Bool) → outcome_in false (pick t (outcome w d (convert table size w.base_address b)) (comes (refusal (UnsupportedAddressSize size)) w))
-        ≡ pick t (outcome w tt (convert table size w.base_address b)) (comes (refusal (UnsupportedAddressSize size)) w)
-    by true = outcome_range w d (convert table size w.base_address b)
-    by false = refl
+converted_ranges r v table size w d b q = told_range r v ∙ ap (outcome_in false) q ∙ bounds_only table size w d b

@@ -7,7 +7,7 @@ ghost use Rattle.lists.specs.Open.{opened, section_for};
 ghost use Rattle.lists.specs.Steps.{told_stepped, location_step};
 ghost use Rattle.lists.specs.Walk.{told_raw, noted_location, told_converted_location, converted_location, told_next_location, next_location};
 
-use super::listed::Stepped;
+pub use super::listed::Stepped;
 use super::{LocationListEntry, Unit, Walk};
 use entries::{Expression, Lists, Noted, RawLocListEntry};
 use section_bytes::common::{DwarfFileType, Encoding, LocationListsOffset};

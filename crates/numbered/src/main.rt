@@ -191,19 +191,14 @@ fn look_up(
 // How many runs a coverage has, and the first two places of its arrays; 0 where there is none.
 fn made(rt: &impl Print, made: Result<Coverage, Error>) -> io::Result<()> {
     match made {
-        Ok(c) => {
-            print!(rt; " runs {:x}: ", c.n)?;
-            print!(rt;
-                "{:x} {:x}, {:x} {:x}",
-                c.begins[0], c.ends[0], c.begins[1], c.ends[1]
-            )?;
-        }
-        Err(e) => {
-            refused(rt, e)?;
-            say(rt, b": 0 0, 0 0")?;
-        }
+        Ok(c) => print!(rt; " runs {:x}", c.n)?,
+        Err(e) => refused(rt, e)?,
     }
-    say(rt, b"\n")
+    let c = coverage::collect::or_empty(made);
+    println!(rt;
+        ": {:x} {:x}, {:x} {:x}",
+        c.begins[0], c.ends[0], c.begins[1], c.ends[1]
+    )
 }
 
 fn cover(rt: &impl Print, label: &[u8], kinds: &[u8], list: &[u8]) -> io::Result<()> {

@@ -1,7 +1,6 @@
 -- The value of bytes: of one and of two, side by side, and by the library's sums.
-use Rattle.std.proofs.Common.{◌≡◌, ℕ, zero, suc, ◌+◌, ◌-◌, ◌*◌, ◌^◌, ◌<◌, ◌≤◌, List, [], ◌∷◌, ◌++◌, reverse, length, get_or, take, drop, refl, ap, ◌∙◌, mul_assoc, add-one, pow-suc, arith, length-drop, length-take-le, take_all, drop-cons}
+use Rattle.std.proofs.Common.{◌≡◌, ℕ, zero, suc, ◌+◌, ◌-◌, ◌*◌, ◌^◌, ◌<◌, ◌≤◌, List, [], ◌∷◌, ◌++◌, reverse, length, get_or, take, drop, refl, sym, ap, ◌∙◌, mul_assoc, pow-suc, arith, length-drop, length-take-le, take_all, take-add, drop-cons, drop-drop}
 use Rattle.std.proofs.lemmas.List.{length-reverse, reverse-append}
-use mathlib.Core.List.{reverse-cons}
 use Rattle.std.proofs.Math.Seq.{take-suc}
 use Rattle.std.specs.Int.{Width, byte_len, byte_worth, sum_through, from_le_bytes, from_be_bytes}
 use Rattle.section_bytes.specs.Endianity.{little, value}
@@ -17,15 +16,21 @@ pub little_two : (a b : ℕ) → little (a ∷ b ∷ []) ≡ a + 256 * b
 unfolding little
 little_two a b = omega arith
 
+-- numbers side by side: the first lower, and in the other order higher
+low_join : (xs ys : List ℕ) → little xs + little ys * 256 ^ length xs ≡ little (xs ++ ys)
+unfolding little
+low_join [] ys = omega arith
+low_join (x ∷ xs) ys = rw (← low_join xs ys, pow-suc) (omega (arith, mul_assoc (little ys) (256 ^ length xs) 256))
+
+other_join : (xs ys : List ℕ) → little (reverse xs) * 256 ^ length ys + little (reverse ys) ≡ little (reverse (xs ++ ys))
+other_join xs ys = rw (reverse-append xs ys, ← low_join (reverse ys) (reverse xs), length-reverse) (omega arith)
+
 -- a byte behind the others is the highest, and the lowest the other way round
 little_behind : (bs : List ℕ) (x : ℕ) → little (bs ++ (x ∷ [])) ≡ little bs + x * 256 ^ length bs
-unfolding little
-little_behind [] x = omega arith
-little_behind (b ∷ bs) x = rw (little_behind bs x, pow-suc) (omega (arith, mul_assoc x (256 ^ length bs) 256))
+little_behind bs x = rw (← low_join bs (x ∷ []), little_one)
 
 reversed_behind : (bs : List ℕ) (x : ℕ) → little (reverse (bs ++ (x ∷ []))) ≡ x + 256 * little (reverse bs)
-unfolding little
-reversed_behind bs x = rw (reverse-append bs (x ∷ []))
+reversed_behind bs x = rw (← other_join bs (x ∷ [])) (omega (arith, little_one x))
 
 worth : (i b : ℕ) → byte_worth i b ≡ b * 256 ^ i
 worth zero b = omega arith
@@ -56,9 +61,13 @@ module _ (bs : List ℕ) where
       let o : byte_len w - 1 - (byte_len w - 1) ≡ 0 = omega arith in
       high_sum (byte_len w - 1) (byte_len w - 1) (omega arith) (omega arith) ∙ rw (k, o, take_all (byte_len w) bs (omega arith)) (omega arith)
 
+-- as many bytes as are taken where they lie in the section
+pub part_length : (s : List ℕ) (at n : ℕ) → at + n ≤ length s → length (take n (drop at s)) ≡ n
+part_length s at n h = length-take-le n (drop at s) (rw (length-drop at s) (omega arith))
+
 -- what the library makes of the bytes at a place
 there : (w : Width) (s : List ℕ) (at : ℕ) {bs : List ℕ} → bs ≡ take (byte_len w) (drop at s) → at + byte_len w ≤ length s → length bs ≡ byte_len w
-there w s at p h = ap length p ∙ length-take-le (byte_len w) (drop at s) (rw (length-drop at s) (omega arith))
+there w s at p h = ap length p ∙ part_length s at (byte_len w) h
 
 module _ (w : Width) (s : List ℕ) (at : ℕ) {bs : List ℕ} {v : ℕ} (p : bs ≡ take (byte_len w) (drop at s)) where
   pub low_there : v ≡ from_le_bytes w bs → 0 < byte_len w → at + byte_len w ≤ length s → v ≡ little (take (byte_len w) (drop at s))
@@ -67,23 +76,26 @@ module _ (w : Width) (s : List ℕ) (at : ℕ) {bs : List ℕ} {v : ℕ} (p : bs
   pub high_there : v ≡ from_be_bytes w bs → 0 < byte_len w → at + byte_len w ≤ length s → v ≡ little (reverse (take (byte_len w) (drop at s)))
   high_there q z h = q ∙ from_high_first bs w z (there w s at p h) ∙ ap (λ (l : List ℕ). little (reverse l)) p
 
--- the first of the bytes at a place, and those after it
-module _ (s : List ℕ) (at n : ℕ) (h : at + suc n ≤ length s) where
-  taken : take (suc n) (drop at s) ≡ get_or s at 0 ∷ take n (drop (at + 1) s)
-  taken = rw (add-one at, drop-cons s at 0 (omega arith))
+-- the bytes at a place, in parts of any two sizes, in either order
+module _ (s : List ℕ) (at m n : ℕ) where
+  parts : take (m + n) (drop at s) ≡ take m (drop at s) ++ take n (drop (at + m) s)
+  parts = take-add m n (drop at s) ∙ ap (λ (l : List ℕ). take m (drop at s) ++ take n l) (drop-drop m at s)
 
-  pub first_low : get_or s at 0 + 256 * little (take n (drop (at + 1) s)) ≡ little (take (suc n) (drop at s))
-  unfolding little
-  first_low = rw taken
+  pub low_parts : little (take m (drop at s)) + little (take n (drop (at + m) s)) * 256 ^ length (take m (drop at s)) ≡ little (take (m + n) (drop at s))
+  low_parts = rw (parts, low_join (take m (drop at s)) (take n (drop (at + m) s)))
 
-  pub first_high : get_or s at 0 * 256 ^ n + little (reverse (take n (drop (at + 1) s))) ≡ little (reverse (take (suc n) (drop at s)))
-  first_high =
-      let l : length (take n (drop (at + 1) s)) ≡ n = length-take-le n (drop (at + 1) s) (rw (length-drop (at + 1) s) (omega arith)) in
-      rw (taken, reverse-cons (get_or s at 0) (take n (drop (at + 1) s)), little_behind (reverse (take n (drop (at + 1) s))) (get_or s at 0), length-reverse, l)
-      (omega arith)
+  pub other_parts : little (reverse (take m (drop at s))) * 256 ^ length (take n (drop (at + m) s)) + little (reverse (take n (drop (at + m) s)))
+      ≡ little (reverse (take (m + n) (drop at s)))
+  other_parts = rw (parts, other_join (take m (drop at s)) (take n (drop (at + m) s)))
 
 -- one byte has no other order
-pub one_there : (endian : RunTimeEndian) (s : List ℕ) (at : ℕ) → at < length s → get_or s at 0 ≡ value endian (take 1 (drop at s))
-unfolding little
-one_there Little s at h = rw (drop-cons s at 0 h) (omega arith)
-one_there Big s at h = rw (drop-cons s at 0 h) (omega arith)
+module _ (s : List ℕ) (at : ℕ) (h : at < length s) where
+  pub one_low : little (take 1 (drop at s)) ≡ get_or s at 0
+  one_low = rw (drop-cons s at 0 h, little_one)
+
+  pub one_high : little (reverse (take 1 (drop at s))) ≡ get_or s at 0
+  one_high = rw (drop-cons s at 0 h, little_one)
+
+  pub one_there : (endian : RunTimeEndian) → get_or s at 0 ≡ value endian (take 1 (drop at s))
+  one_there Little = sym one_low
+  one_there Big = sym one_high

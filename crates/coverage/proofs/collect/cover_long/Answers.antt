@@ -1,16 +1,13 @@
--- The first ranges are those of the short arrays; for the others there is the room that is left. Assumes nothing.
-use Rattle.std.proofs.Common.{ℕ, List, drop, ◌∙◌, ap₂, arith}
-use Rattle.coverage.specs.Ranges.{Range}
+-- The source's own lists hold what their words say. Assumes nothing.
+use Rattle.std.proofs.Common.{◌-◌, ap, ◌∙◌}
+use Rattle.coverage.specs.Ranges.{limit}
 use Rattle.coverage.specs.Kept.{firsts}
-use Rattle.coverage.specs.Covered.{source_in}
 use Rattle.coverage.specs.Gathered.{short, coverage_within}
-use Rattle.coverage.proofs.GatherLaws.{firsts_copied}
+use Rattle.coverage.proofs.GatherLaws.{source_own}
 use Rattle.coverage.proofs.collect.cover_long.Goals as goal
 
 pub returns-clause-ends_after : goal.returns-clause-ends_after
 returns-clause-ends_after c =
     let a = c.args in
-    let p = c.copy_from_slice.ensures.after in
-    let q = c.copy_from_slice-2.ensures.after in
-    let f = firsts_copied short _ _ (drop short a.begins.now) (drop short a.ends.now) (omega arith) (omega arith) ∙ ap₂ (firsts short) p q in
-    c.cover.ensures.ends_after ∙ ap₂ (λ (d : List Range) (n : ℕ). coverage_within d n (source_in a.source.now)) f (omega arith)
+    c.cover_long_as.ensures.ends_after
+    ∙ ap (coverage_within (firsts short a.first_begins.now a.first_ends.now) (limit - short)) (source_own a.source.now c.words_of-locations.ensures.0 c.words_of-locations.ensures.1)

@@ -6,4 +6,4 @@ use Rattle.coverage.proofs.place.put_front.Goals as goal
 pub returns : goal.returns
 returns c =
     let a = c.args in
-    front_put a.bs.now a.es.now a.n c.requires a.begins.now a.ends.now (omega arith) (omega arith) c.copy_from_slice.ensures.after c.copy_from_slice-2.ensures.after
+    front_put a.bs.now a.es.now a.n c.requires a.begins.now a.ends.now (omega arith) (omega arith) c.copy.ensures c.copy-2.ensures
