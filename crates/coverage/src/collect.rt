@@ -79,8 +79,7 @@ fn gather(
 // compiled, so is which lists are read, and the loop over the entries has nothing of the others; a source stands in memory, through
 // which that isn't seen.
 fn lists_as<'a>(locations: bool, by_table: bool, source: &Source<'a>) -> Lists<'a>
-    ensures itself { holding result ≡ holding_as locations by_table source.now.lists }
-    ensures said { holding result ≡ holding_as locations by_table result }
+    ensures { holding result ≡ holding_as locations by_table source.now.lists }
 {
     if locations {
         return match source.lists {
@@ -98,26 +97,39 @@ fn lists_as<'a>(locations: bool, by_table: bool, source: &Source<'a>) -> Lists<'
     Lists::Ranges(None)
 }
 
-// Range lists without a table.
-static PLAIN: Lists<'static> = Lists::Ranges(None);
-
-// The same lists; range lists without a table as a constant, which is seen through a reference before anything is inlined, so that a
-// bare pair, too, is read in the loop and not by a call.
-fn settled<'a>(locations: bool, by_table: bool, lists: &'a Lists<'a>) -> &'a Lists<'a>
-    requires { holding lists.now ≡ holding_as locations by_table lists.now }
-    ensures { holding result.now ≡ holding lists.now }
-{
-    if locations {
-        return lists;
-    }
-    if by_table {
-        return lists;
-    }
-    &PLAIN
-}
-
 // The coverage of the ranges that stand at the front of two arrays and of a list, which holds what two words say, with room for as many
 // ranges as the arrays have places.
+fn cover_listed(
+    source: &Source,
+    locations: bool,
+    by_table: bool,
+    done: usize,
+    begins: &mut [u64],
+    ends: &mut [u64],
+) -> Result<Gathered, Error>
+    requires { (done ≤ length begins.old) × (length begins.old ≤ limit) × Sized (length begins.old) begins.old ends.old }
+    ensures ends_after { told_gathered result begins.new ends.new ≡ coverage_within (firsts done begins.old ends.old) (length begins.old - done) (source_as locations by_table source.now) }
+    ensures sized { Sized (length begins.old) begins.new ends.new }
+{
+    let lists = lists_as(locations, by_table, source);
+    // Copied, so that the loop over the entries has it in registers: without that it takes half as many instructions more.
+    let section = source.section;
+    let unit = source.unit;
+    // Both lists open alike.
+    let start = lists::rnglists::ranges(
+        section,
+        RangeListsOffset(source.offset.0),
+        unit.encoding,
+        source.base_address,
+    )?;
+    match gather(section, &unit, &lists, start, done, begins, ends)? {
+        Gathered::All(n) => Ok(Gathered::All(super::sort::to_runs(begins, ends, n))),
+        Gathered::Full(walk) => Ok(Gathered::Full(walk)),
+    }
+}
+
+// The same, by a call. In there the compiler learns which list is read, and around it it looks at the calls that are left once more: a
+// bare pair is then read in the loop. Without that it takes a third to a half more instructions, and a base address twice as many.
 fn cover(
     source: &Source,
     locations: bool,
@@ -130,22 +142,7 @@ fn cover(
     ensures ends_after { told_gathered result begins.new ends.new ≡ coverage_within (firsts done begins.old ends.old) (length begins.old - done) (source_as locations by_table source.now) }
     ensures sized { Sized (length begins.old) begins.new ends.new }
 {
-    let own = lists_as(locations, by_table, source);
-    let lists = settled(locations, by_table, &own);
-    // Copied, so that the loop over the entries has it in registers: without that it takes half as many instructions more.
-    let section = source.section;
-    let unit = source.unit;
-    // Both lists open alike.
-    let start = lists::rnglists::ranges(
-        section,
-        RangeListsOffset(source.offset.0),
-        unit.encoding,
-        source.base_address,
-    )?;
-    match gather(section, &unit, lists, start, done, begins, ends)? {
-        Gathered::All(n) => Ok(Gathered::All(super::sort::to_runs(begins, ends, n))),
-        Gathered::Full(walk) => Ok(Gathered::Full(walk)),
-    }
+    cover_listed(source, locations, by_table, done, begins, ends)
 }
 
 // The coverage of a list, which holds what two words say. The arrays are lent for work: what they held is not read, and what stands

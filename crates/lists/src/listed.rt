@@ -54,7 +54,9 @@ pub fn convert_raw(
     if !section_bytes::reader::is_address_size(size) {
         return (Err(Error::UnsupportedAddressSize(size)), walk);
     }
-    match super::convert::convert_entry(bounds, unit, walk.base_address) {
+    // Copied, so that the lookups of its addresses are compiled into this function and not called.
+    let unit = *unit;
+    match super::convert::convert_entry(bounds, &unit, walk.base_address) {
         Ok(Converted::Range(range)) => (Ok(Some(LocationListEntry { range, data })), walk),
         Ok(Converted::Base(base_address)) => (Ok(None), walk.rebased(base_address)),
         Ok(Converted::Skip) => (Ok(None), walk),

@@ -7,15 +7,10 @@ use mathlib.Core.List.{List, [], ◌∷◌, ◌++◌}
 use mathlib.Core.Logic.{◌⊎◌, inl, inr, ⊎_elim}
 use mathlib.Core.Path.{◌≡◌, refl, sym, ap, ◌∙◌}
 use lib.Dec.{leb, ltb}
-use lib.ListN.{length, get_or, set, drop, replicate, length-set, get_or-replicate}
+use lib.ListN.{length, set, drop, replicate, length-set, get_or-replicate}
 use lib.Seq.{sets, sets-eq, get_or-set_same, get_or-set_other}
-use borrow.Author.Tests.{le-leb, leb-true, lt-ltb, le-ltb}
-use Rattle.std.specs.Prelude.{Some}
-use Rattle.std.specs.Bool.{MatchBool}
+use borrow.Author.Tests.{le-leb, leb-true, leb-false, lt-ltb, le-ltb}
 use Rattle.std.specs.List.{IsAllAdjacentAnswer}
-use Rattle.std.specs.List.Sorted.{IsNonDecreasing}
-use Rattle.std.specs.Ordering.{nat_cmp, is_le, is_some_and}
-use Rattle.std.proofs.lemmas.List.Sorted.{non_decreasing_from_is_sorted}
 use Rattle.section_bytes.specs.Read.{pick}
 use Rattle.section_bytes.proofs.Order.{lt_or_le}
 use Rattle.stacks.specs.Ascending.{ascends}
@@ -109,12 +104,9 @@ pub ascends_not : (l : List ℕ) (i : ℕ) → suc i < length l → at l (suc i)
 ascends_not l i h k = not_true (ascends l) (λ q. let o = ascending_in l q i (suc i) (omega arith) h in omega arith)
 
 -- what the library's test of the order answers
-sorted_by : (l : List ℕ) (r : Bool) → MatchBool r (IsNonDecreasing l) ((k : ℕ) × (k + 1 < length l) × ((d : ℕ) → get_or l (k + 1) d < get_or l k d)) → ascends l ≡ r
-sorted_by l true h = ascends_all l (λ i k. h i (suc i) 0 (omega arith) k)
-sorted_by l false h = let z = h.2 0 in ascends_not l h.0 (omega (arith, h.1)) (rw (← add-one h.0) z)
-
-pub sorted_is : (l : List ℕ) (r : Bool) → IsAllAdjacentAnswer (λ x y b. is_some_and is_le (Some (nat_cmp x y)) ≡ b) l r → ascends l ≡ r
-sorted_is l r h = sorted_by l r (non_decreasing_from_is_sorted l r h)
+pub sorted_is : (l : List ℕ) (r : Bool) → IsAllAdjacentAnswer (λ x y b. b ≡ leb x y) l r → ascends l ≡ r
+sorted_is l true h = ascends_all l (λ i k. leb-true (at l i) (at l (suc i)) (rw (← add-one i) (sym (h i 0 (omega arith)))))
+sorted_is l false h = ascends_not l h.0 (omega (arith, h.1)) (leb-false (at l h.0) (at l (suc h.0)) (rw (← add-one h.0) (sym (h.2 0))))
 
 -- numbers put over a list from a place on
 sets_before : (vs l : List ℕ) (k i : ℕ) → i < k → at (sets l k vs) i ≡ at l i

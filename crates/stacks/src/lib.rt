@@ -42,6 +42,8 @@ fn found_from(
     ensures rows_after { rows.new ≡ sets rows.old 0 (map (λ a. row_from (are_locations lists.now) (coding_in lists.now) section.now unit.now a (walk_at start base 0)) (take n addresses.now)) }
     ensures value { result ≡ longest (λ a. reads_from (are_locations lists.now) (coding_in lists.now) section.now unit.now a (walk_at start base 0)) (take n addresses.now) }
 {
+    // Copied, so that the lookups of its addresses are compiled into the loop and not called.
+    let unit = *unit;
     let mut at = start;
     let mut base_address = base;
     let mut read: u64 = 0;
@@ -51,7 +53,7 @@ fn found_from(
     let mut after: u64 = addresses[0];
     let mut next = [0usize; MOST];
     loop {
-        match lists::listed::step(section, unit, lists, at, base_address) {
+        match lists::listed::step(section, &unit, lists, at, base_address) {
             Ok(Some((stepped, c))) => {
                 at = c;
                 read += 1;
@@ -130,7 +132,7 @@ fn lookup_in(
     if MOST < n {
         return Err(Error::TooManyAddresses);
     }
-    if !addresses.is_sorted() {
+    if !addresses.is_sorted_by(|a, b| a <= b) {
         return Err(Error::DescendingAddresses);
     }
     if n == 0 {
