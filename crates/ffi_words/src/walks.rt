@@ -43,11 +43,17 @@ pub fn file_in(words: &WalkWords) -> DwarfFileType
     super::common::file_of(words[3])
 }
 
+// A base address that stays is not written. With the write, raw entries of range lists take up to two fifths longer: the compiler then
+// reads the base address and the count as one number of 16 bytes when the next call begins, which waits for the count that the call
+// before it wrote.
 pub fn hand_back(words: &mut WalkWords, walk: Walk)
     ensures { words.new ≡ handed_back words.old walk }
 {
-    let split = words[3];
-    *words = [walk.at as u64, walk.base_address, walk.entries, split];
+    words[0] = walk.at as u64;
+    words[2] = walk.entries;
+    if words[1] != walk.base_address {
+        words[1] = walk.base_address;
+    }
 }
 
 pub fn hand_on(words: &mut WalkWords, walk: Walk)
